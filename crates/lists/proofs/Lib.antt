@@ -1,0 +1,5 @@
+-- The laws of what loops share.
+pub mod Tests
+pub mod First
+pub mod Grow
+pub mod Onto

@@ -1,0 +1,1 @@
+// What loops over lists share: definitions and laws, and no code.

@@ -1,0 +1,1 @@
+// The mathematics of clock trees without skew: definitions and laws, and no code.
