@@ -9,7 +9,7 @@ use borrow.Author.Tests.{ltb-true, ltb-false, eqb-true, eqb-false}
 use lib.Dec.{ltb, eqb}
 use lib.ListN.{length, getD, take, drop, set, length-append, length-set, List·getD-append}
 use lib.Seq.{take-suc-set, getD-take, drop-cons, set-at, getD-at, getD-set-same, getD-set-other}
-use Rattle.lists.specs.Grow.{more, grow, front, tab, sumTo}
+use Rattle.lists.specs.Grow.{more, grow, front, tab, sumTo, upTo}
 
 module _ {A : Type 0} where
   pub length-grow : (f : List A → A) (k : ℕ) → length (grow f k) ≡ k
@@ -120,3 +120,9 @@ sum-same f g (suc m) h = omega (arith, h m (omega arith), sum-same f g m (λ k l
 
 pub sum-more : (f : ℕ → ℕ) (i : ℕ) → sumTo f (i + 1) ≡ sumTo f i + f i
 sum-more f i = rw add-one
+
+pub length-upTo : (n : ℕ) → length (upTo n) ≡ n
+length-upTo n = length-grow (λ l. length l) n
+
+pub upTo-more : (n : ℕ) → upTo (n + 1) ≡ upTo n ++ (n ∷ [])
+upTo-more n = rw (add-one, tab-at (λ i. i) n)

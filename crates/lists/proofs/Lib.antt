@@ -3,3 +3,4 @@ pub mod Tests
 pub mod First
 pub mod Grow
 pub mod Onto
+pub mod Sums

@@ -1,10 +1,11 @@
 -- The box of two sets together is the hull of their boxes, and its diameter is no smaller than either's.
 use mathlib.Core.Path.{_≡_, refl, sym}
 use mathlib.Core.Logic.{inl, inr, ⊎-elim}
-use mathlib.Core.List.{List, _∷_, _++_, List·Memᴰ·head, List·Memᴰ·append-cases, Memᴰ·append-left, Memᴰ·append-right}
-use Prim.Native.Nat.{ℕ, _≤_}
+use mathlib.Core.List.{List, [], _∷_, _++_, List·Memᴰ·head, List·Memᴰ·append-cases, Memᴰ·append-left, Memᴰ·append-right}
+use Prim.Native.Nat.{ℕ, _≤_, _<_}
 use native.Mathlib.Omega.{arith}
 use lib.IntN.{ℤ, pos, _+ℤ_, _-ℤ_}
+use lib.ListN.{length}
 use Rattle.zero_skew.specs.Plane.{Sinks, u, v}
 use Rattle.zero_skew.specs.Box.{larger, smaller, greatest, least, high, low, boxOf, diameter, hull}
 use Rattle.zero_skew.proofs.Whole.{up, down, _⊑_, add-is, minus-is, larger-is, smaller-is}
@@ -44,13 +45,18 @@ module _ (s : Sinks) where
     low-is c = least-append (λ k. c k -ℤ pos (s .wait k)) i l j m
 
     -- THE BOX of a joined set is the hull of the boxes
-    pub box-append : boxOf s ((i ∷ l) ++ (j ∷ m)) ≡ hull (boxOf s (i ∷ l)) (boxOf s (j ∷ m))
+    box-append : boxOf s ((i ∷ l) ++ (j ∷ m)) ≡ hull (boxOf s (i ∷ l)) (boxOf s (j ∷ m))
     box-append = λ k. record {
       least-u = sym (low-is (u s)) k;
       greatest-u = sym (high-is (u s)) k;
       least-v = sym (low-is (v s)) k;
       greatest-v = sym (high-is (v s)) k;
     }
+
+  pub box-join : (l m : List ℕ) → 0 < length l → 0 < length m → boxOf s (l ++ m) ≡ hull (boxOf s l) (boxOf s m)
+  box-join [] m h g = absurd (omega arith)
+  box-join (i ∷ l) [] h g = absurd (omega arith)
+  box-join (i ∷ l) (j ∷ m) h g = box-append i l j m
 
   -- a part's diameter is no larger
   pub under-l : (l m : List ℕ) → diameter s l ≤ diameter s (l ++ m)

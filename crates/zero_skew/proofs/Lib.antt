@@ -1,5 +1,22 @@
--- The laws of the mathematics.
+-- The laws of the mathematics: the plane and its boxes, the bound for a joining order, deferred-merge embedding, and what follows of document 01's embedding.
 pub mod Whole
 pub mod Places
 pub mod Lemma1
 pub mod Hull
+pub mod Timed
+pub mod Count
+pub mod Sums
+pub mod Bound
+pub mod Alike
+pub mod Placed
+pub mod Region
+pub mod Merge
+pub mod EdgeLengths
+pub mod DeferredMerge
+pub mod Arcs
+pub mod Geometry
+pub mod Finer
+pub mod Outcomes
+pub mod Embedding
+pub mod LeastForOrder
+pub mod P6

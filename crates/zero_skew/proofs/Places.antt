@@ -7,8 +7,8 @@ use Rattle.zero_skew.specs.Plane.{Place, Sinks, dist, scaled, u, v, twic
 use Rattle.zero_skew.proofs.Whole.{up, down, add-is, minus-is, times-up, times-down, same, turned, tilt, abs-minus}
 
 -- two places on the grid of quarters are as many half units apart as their doubled coordinates say
-pub half-units : (a b c d : ℤ) → dist (quarters a b) (quarters c d) ≡ 2 * away a b c d
-half-units a b c d = turned a c b d
+pub doubled-distance : (a b c d : ℤ) → dist (quarters a b) (quarters c d) ≡ 2 * away a b c d
+doubled-distance a b c d = turned a c b d
 
 module _ (s : Sinks) where
   -- four quarters a grid unit, and nothing is rounded

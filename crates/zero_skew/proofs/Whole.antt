@@ -83,9 +83,6 @@ pub times-down : (k : ℕ) (a : ℤ) → down (pos k *ℤ a) ≡ k * down a
 times-down k (pos a) = sym (mul-zero k)
 times-down k (negsuc a) = neg-down (pos (k * suc a))
 
-times-minus : (k a b : ℕ) → k * (a - b) ≡ k * a - k * b
-times-minus k a b = mul-sub k a b
-
 times-gap : (k a b : ℕ) → k * gap a b ≡ gap (k * a) (k * b)
 times-gap k a b = mul-add k (a - b) (b - a) ∙ (rw (mul-sub k a b, mul-sub k b a))
 
@@ -235,6 +232,12 @@ smaller-is a b z p q e =
     antisym (smaller a b) z
     (⊎-elim (λ d. omega (arith, smaller-l a b)) (λ d. omega (arith, smaller-r a b)) e)
     (⊎-elim (λ d. rw d p) (λ d. rw d q) (smaller-one a b))
+
+pub plus-none : (z : ℤ) → z +ℤ pos 0 ≡ z
+plus-none z = same (z +ℤ pos 0) z (omega (arith, add-is z (pos 0)))
+
+pub minus-none : (z : ℤ) → z -ℤ pos 0 ≡ z
+minus-none z = same (z -ℤ pos 0) z (omega (arith, minus-is z (pos 0)))
 
 -- ---- the nearest value of a range
 pub nearest-in : (a b z : ℤ) → a ⊑ b → (a ⊑ nearest a b z) × (nearest a b z ⊑ b)

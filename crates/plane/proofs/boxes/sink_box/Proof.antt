@@ -1,0 +1,51 @@
+use borrow.Author.Needs.{needs}
+use mir.Facts.{toZ-ofZ}
+use Rattle.plane.proofs.Numbers.{lift-range}
+use Rattle.plane.proofs.boxes.sink_box.Statement.{statement}
+use Rattle.plane.proofs.boxes.sink_box.Tie as tie
+
+on-grid-requires : tie.Need-on-grid-requires
+on-grid-requires c κs = search needs
+
+on-grid-requires-2 : tie.Need-on-grid-requires-2
+on-grid-requires-2 c κs = search needs
+
+tilted-u-requires : tie.Need-tilted-u-requires
+tilted-u-requires c κs =
+    let f = c .before .before .fits .x in
+    let g = c .before .before .fits .y in
+    rw (simp toZ-ofZ at (c .before .on-grid .ensures), simp toZ-ofZ at (c .on-grid2 .ensures))
+    (lift-range (c .before .before .args .x) (c .before .before .pre .0) .1, lift-range (c .before .before .args .y) (c .before .before .pre .1) .1)
+
+tilted-v-requires : tie.Need-tilted-v-requires
+tilted-v-requires c κs =
+    let f = c .before .before .before .fits .x in
+    let g = c .before .before .before .fits .y in
+    rw (simp toZ-ofZ at (c .before .before .on-grid .ensures), simp toZ-ofZ at (c .before .on-grid2 .ensures))
+    (lift-range (c .before .before .before .args .x) (c .before .before .before .pre .0) .1, lift-range (c .before .before .before .args .y) (c .before .before .before .pre .1) .1)
+
+point-requires : tie.Need-point-requires
+point-requires c κs = search needs
+
+returns : tie.Need-returns
+returns c =
+    let f = c .before .before .before .before .before .fits .x in
+    let g = c .before .before .before .before .before .fits .y in
+    rw (
+      c .point .ensures,
+      c .before .tilted-v .ensures,
+      c .before .before .tilted-u .ensures,
+      simp toZ-ofZ at (c .before .before .before .on-grid2 .ensures),
+      simp toZ-ofZ at (c .before .before .before .before .on-grid .ensures),
+    )
+
+pub sink-box-spec : {M : Type 1} → statement M
+sink-box-spec =
+    tie.close
+    (tie.spec
+    on-grid-requires
+    on-grid-requires-2
+    tilted-u-requires
+    tilted-v-requires
+    point-requires
+    returns)

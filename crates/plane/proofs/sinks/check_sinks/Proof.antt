@@ -1,0 +1,78 @@
+use borrow.Author.Needs.{needs}
+use borrow.Author.Tests.{lt-ltb, le-ltb, eq-eqb, ne-eqb}
+use Rattle.plane.specs.Sinks.{checkSinks}
+use Rattle.plane.proofs.sinks.check_sinks.Statement.{statement}
+use Rattle.plane.proofs.sinks.check_sinks.Tie as tie
+
+returns : tie.Need-returns
+unfolding checkSinks
+returns c =
+    simp (ne-eqb _ _ (c .if1 .taken))
+
+returns-2 : tie.Need-returns-2
+unfolding checkSinks
+returns-2 c =
+    simp (eq-eqb _ _ (c .before .if1 .left), eq-eqb _ _ (c .if2 .taken))
+
+returns-3 : tie.Need-returns-3
+unfolding checkSinks
+returns-3 c =
+    simp (eq-eqb _ _ (c .before .before .if1 .left), ne-eqb _ _ (c .before .if2 .left), lt-ltb _ _ (c .if3 .taken))
+
+first-outside-requires : tie.Need-first-outside-requires
+first-outside-requires c κs = search needs
+
+returns-4 : tie.Need-returns-4
+unfolding checkSinks
+returns-4 c =
+    let o = c .before .first-outside .ensures in
+    simp (
+      eq-eqb _ _ (c .before .before .before .before .if1 .left),
+      ne-eqb _ _ (c .before .before .before .if2 .left),
+      le-ltb _ _ (c .before .before .if3 .left),
+      lt-ltb _ _ (rw o at (c .if4 .taken)),
+      o,
+    )
+
+first-repeat-requires : tie.Need-first-repeat-requires
+first-repeat-requires c κs = search needs
+
+returns-5 : tie.Need-returns-5
+unfolding checkSinks
+returns-5 c =
+    let o = c .before .before .before .first-outside .ensures in
+    let r = c .before .first-repeat .ensures in
+    simp (
+      eq-eqb _ _ (c .before .before .before .before .before .before .if1 .left),
+      ne-eqb _ _ (c .before .before .before .before .before .if2 .left),
+      le-ltb _ _ (c .before .before .before .before .if3 .left),
+      le-ltb _ _ (rw o at (c .before .before .if4 .left)),
+      lt-ltb _ _ (rw r at (c .if5 .taken)),
+      r,
+    )
+
+returns-6 : tie.Need-returns-6
+unfolding checkSinks
+returns-6 c =
+    let o = c .before .before .before .first-outside .ensures in
+    let r = c .before .first-repeat .ensures in
+    simp (
+      eq-eqb _ _ (c .before .before .before .before .before .before .if1 .left),
+      ne-eqb _ _ (c .before .before .before .before .before .if2 .left),
+      le-ltb _ _ (c .before .before .before .before .if3 .left),
+      le-ltb _ _ (rw o at (c .before .before .if4 .left)),
+      le-ltb _ _ (rw r at (c .if5 .left)),
+    )
+
+pub check-sinks-spec : {M : Type 1} → statement M
+check-sinks-spec =
+    tie.close
+    (tie.spec
+    returns
+    returns-2
+    returns-3
+    first-outside-requires
+    returns-4
+    first-repeat-requires
+    returns-5
+    returns-6)

@@ -1,0 +1,52 @@
+use Prim.Native.Nat.{_≤_, _-_}
+use mathlib.Core.Path.{_≡_, sym, _∙_}
+use borrow.Author.Needs.{needs}
+use native.Mathlib.Omega.{arith}
+use lib.ListN.{length}
+use Rattle.plane.specs.Sinks.{outside, together, repeats}
+use Rattle.lists.proofs.First.{Seek, seek-begin, seek-go, seek-stop, seek-end}
+use Rattle.plane.proofs.sinks.first_repeat.Statement.{statement}
+use Rattle.plane.proofs.sinks.first_repeat.Tie as tie
+
+abbrev Inv-loop : tie.InvT-loop
+Inv-loop xs ys i₀ i = Seek (repeats xs ys) (length xs) i
+
+abbrev μ-loop : tie.MeasureT-loop
+μ-loop xs ys i₀ i = length xs - i
+
+loop-holds : tie.Need-loop-holds Inv-loop μ-loop
+loop-holds c = seek-begin
+
+repeats-earlier-requires : tie.Need-repeats-earlier-requires Inv-loop μ-loop
+repeats-earlier-requires c κs = search needs
+
+returns : tie.Need-returns Inv-loop μ-loop
+returns c =
+    seek-stop (c .before .before .before .loop .inv) (c .before .before .loop-test .taken) (sym (c .before .repeats-earlier .ensures) ∙ c .if1 .taken)
+
+add-i : tie.Need-add-i Inv-loop μ-loop
+add-i c = omega arith
+
+loop-less : tie.Need-loop-less Inv-loop μ-loop
+loop-less c = omega arith
+
+loop-again : tie.Need-loop-again Inv-loop μ-loop
+loop-again c =
+    seek-go (c .before .before .before .loop .inv) (c .before .before .loop-test .taken) (sym (c .before .repeats-earlier .ensures) ∙ c .if1 .left)
+
+returns-2 : tie.Need-returns-2 Inv-loop μ-loop
+returns-2 c = seek-end (c .before .loop .inv) (c .loop-test .left)
+
+pub first-repeat-spec : {M : Type 1} → statement M
+first-repeat-spec =
+    tie.close
+    (tie.spec
+    Inv-loop
+    μ-loop
+    loop-holds
+    repeats-earlier-requires
+    returns
+    add-i
+    loop-less
+    loop-again
+    returns-2)

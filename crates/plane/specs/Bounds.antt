@@ -1,0 +1,67 @@
+-- The box of all sinks, and a held box that is widened by one more sink.
+use mathlib.Core.Path.{_≡_}
+use mathlib.Core.Bool.{_&&_, not, cond}
+use mathlib.Core.List.{List}
+use Prim.Native.Nat.{ℕ, zero, suc}
+use lib.IntN.{ℤ, pos, _+ℤ_, _-ℤ_}
+use lib.ListN.{length, getD}
+use Rattle.lists.specs.Grow.{upTo}
+use Rattle.zero_skew.specs.Box.{Bounds, boxOf, hull}
+use Rattle.plane.specs.declared.boxes.Box.{Box}
+use Rattle.plane.specs.declared.bounds.Boxed.{Boxed}
+use Rattle.plane.specs.declared.bounds.Boxed.the-variants.{Of, NoBox}
+use Rattle.plane.specs.declared.bounds.Extent.{Extent}
+use Rattle.plane.specs.declared.refusal.Refusal.{Refusal}
+use Rattle.plane.specs.declared.refusal.Refusal.the-variants.{Outside}
+use Rattle.plane.specs.declared.refusal.Checked.{Checked}
+use Rattle.plane.specs.declared.refusal.Checked.the-variants.{Fine, Refused}
+use Rattle.plane.specs.Range.{inRange}
+use Rattle.plane.specs.Refusals.{refuseIf}
+use Rattle.plane.specs.Sinks.{sinksAt, checkSinks}
+use Rattle.plane.specs.Measures.{unlifted}
+
+-- what a box holds, as numbers with sign
+abbrev pub bounds : Box → Bounds
+bounds b =
+    record { least-u = unlifted (b .lu .0); greatest-u = unlifted (b .hu .0); least-v = unlifted (b .lv .0); greatest-v = unlifted (b .hv .0) }
+
+abbrev pub boundsIn : Extent → Bounds
+boundsIn e = record { least-u = e .«least_u»; greatest-u = e .«greatest_u»; least-v = e .«least_v»; greatest-v = e .«greatest_v» }
+
+-- an answer: a box, or a refusal
+pub data Answer : Type 0 where
+  box : Bounds → Answer
+  refused : Refusal → Answer
+
+abbrev pub seen : Boxed → Answer
+seen (Of b) = box (bounds b)
+seen (NoBox r) = refused r
+
+abbrev pub after : Checked → Answer → Answer
+after Fine a = a
+after (Refused r) a = refused r
+
+-- "a box worked out from all sinks"
+unfoldable pub boxAnswer : List ℤ → List ℤ → Answer
+boxAnswer xs ys = after (checkSinks 512 xs ys) (box (boxOf (sinksAt xs ys) (upTo (length xs))))
+
+-- the box of one sink at x and y
+abbrev pub sinkBounds : ℤ → ℤ → Bounds
+sinkBounds x y = record { least-u = x +ℤ y; greatest-u = x +ℤ y; least-v = x -ℤ y; greatest-v = x -ℤ y }
+
+-- "a box already held is widened by one more sink; a sink outside its range is refused with 4, place 0, and the held box stays as it is"
+abbrev pub widenedBy : Bounds → ℤ → ℤ → Bounds
+widenedBy b x y = cond (inRange x && inRange y) (hull b (sinkBounds x y)) b
+
+abbrev pub verdict : ℤ → ℤ → Checked
+verdict x y = refuseIf (not (inRange x && inRange y)) (Outside 0) Fine
+
+-- the held box and the sink, then the box after it and what is said
+pub record Widens (b : Bounds) (x y : ℤ) (held : Bounds) (said : Checked) : Type 0 where
+  pub holds : held ≡ widenedBy b x y
+  pub says : said ≡ verdict x y
+
+-- the box of sink 0, widened by sinks 1 to k in turn
+unfoldable pub inTurn : List ℤ → List ℤ → ℕ → Bounds
+inTurn xs ys zero = sinkBounds (getD xs 0 (pos 0)) (getD ys 0 (pos 0))
+inTurn xs ys (suc k) = widenedBy (inTurn xs ys k) (getD xs (suc k) (pos 0)) (getD ys (suc k) (pos 0))

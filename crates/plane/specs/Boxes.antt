@@ -1,0 +1,36 @@
+-- For the code alone: boxes in lifted numbers.
+use Prim.Native.Nat.{ℕ, _≤_, max}
+use lib.IntN.{ℤ}
+use Rattle.plane.specs.declared.measure.Tilted.{Tilted}
+use Rattle.plane.specs.declared.boxes.Box.{Box}
+use Rattle.plane.specs.Measures.{gridOf, uOf, vOf, leastOf, greatestOf, gap}
+
+abbrev pub pointBox : Tilted → Tilted → Box
+pointBox u v = record { lu = u; hu = u; lv = v; hv = v }
+
+-- the box of one sink
+abbrev pub sinkBox : ℤ → ℤ → Box
+sinkBox x y = pointBox (uOf (gridOf x) (gridOf y)) (vOf (gridOf x) (gridOf y))
+
+-- the box of two sets together
+abbrev pub hullOf : Box → Box → Box
+hullOf a b =
+    record {
+      lu = leastOf (a .lu) (b .lu);
+      hu = greatestOf (a .hu) (b .hu);
+      lv = leastOf (a .lv) (b .lv);
+      hv = greatestOf (a .hv) (b .hv);
+    }
+
+-- the larger of the two widths
+unfoldable pub diamOf : Box → ℕ
+diamOf b = max (gap (b .hu .0) (b .lu .0)) (gap (b .hv .0) (b .lv .0))
+
+-- a box that sinks in range can have
+pub record Fair (b : Box) : Type 0 where
+  pub u-low : 61000000 ≤ b .lu .0
+  pub u-up : b .lu .0 ≤ b .hu .0
+  pub u-high : b .hu .0 ≤ 67000000
+  pub v-low : 61000000 ≤ b .lv .0
+  pub v-up : b .lv .0 ≤ b .hv .0
+  pub v-high : b .hv .0 ≤ 67000000

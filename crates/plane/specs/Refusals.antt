@@ -1,0 +1,37 @@
+-- Document 01, "Refusal numbers": a number and a place for each refusal. Place "none" is its own case.
+use mathlib.Core.Bool.{Bool, cond}
+use Prim.Native.Nat.{ℕ}
+use Rattle.plane.specs.declared.refusal.Refusal.{Refusal}
+use Rattle.plane.specs.declared.refusal.Refusal.the-variants.{Lists, NoSink, TooMany, Outside, Repeated, Joins, Room, Form, Tags, Unlike}
+use Rattle.plane.specs.declared.refusal.Place.{Place}
+use Rattle.plane.specs.declared.refusal.Place.the-variants.{None, At}
+use Rattle.plane.specs.declared.refusal.Checked.{Checked}
+use Rattle.plane.specs.declared.refusal.Checked.the-variants.{Refused}
+
+abbrev pub number : Refusal → ℕ
+number Lists = 1
+number NoSink = 2
+number TooMany = 3
+number (Outside i) = 4
+number (Repeated i) = 5
+number (Joins i) = 6
+number Room = 7
+number (Form i) = 8
+number Tags = 9
+number (Unlike i) = 9
+
+abbrev pub place : Refusal → Place
+place Lists = None
+place NoSink = None
+place TooMany = None
+place (Outside i) = At i
+place (Repeated i) = At i
+place (Joins i) = At i
+place Room = None
+place (Form i) = At i
+place Tags = None
+place (Unlike i) = At i
+
+-- one line of a check: refused where the condition holds, else what the lines after it say
+abbrev pub refuseIf : Bool → Refusal → Checked → Checked
+refuseIf condition r next = cond condition (Refused r) next

@@ -1,0 +1,57 @@
+// The box of four numbers, by value.
+ghost use mathlib.Core.Path.{_≡_};
+ghost use lib.Dec.{T};
+ghost use Rattle.plane.specs.Range.{inRange};
+ghost use Rattle.plane.specs.Boxes.{pointBox, sinkBox, hullOf, diamOf};
+use crate::measure;
+use crate::measure::Tilted;
+
+// The least and the greatest u and v of a set of sinks.
+pub struct Box {
+    pub lu: Tilted,
+    pub hu: Tilted,
+    pub lv: Tilted,
+    pub hv: Tilted,
+}
+
+pub fn point(u: Tilted, v: Tilted) -> Box
+    ensures { λ r. ⌜ r ≡ pointBox u v ⌝ }
+{
+    Box {
+        lu: u,
+        hu: u,
+        lv: v,
+        hv: v,
+    }
+}
+
+// The box of one sink.
+pub fn sink_box(x: i32, y: i32) -> Box
+    requires { ⌜ T (inRange x) × T (inRange y) ⌝ }
+    ensures { λ r. ⌜ r ≡ sinkBox x y ⌝ }
+{
+    let gx = measure::on_grid(x);
+    let gy = measure::on_grid(y);
+    point(measure::tilted_u(gx, gy), measure::tilted_v(gx, gy))
+}
+
+// The box of two sets together.
+pub fn hull(a: Box, b: Box) -> Box
+    ensures { λ r. ⌜ r ≡ hullOf a b ⌝ }
+{
+    Box {
+        lu: measure::least(a.lu, b.lu),
+        hu: measure::greatest(a.hu, b.hu),
+        lv: measure::least(a.lv, b.lv),
+        hv: measure::greatest(a.hv, b.hv),
+    }
+}
+
+// The larger of the two widths.
+pub fn diameter(b: Box) -> u32
+    ensures { λ r. ⌜ r ≡ diamOf b ⌝ }
+{
+    let wu = measure::width(b.lu, b.hu);
+    let wv = measure::width(b.lv, b.hv);
+    if wu <= wv { wv } else { wu }
+}

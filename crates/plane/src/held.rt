@@ -1,0 +1,13 @@
+// A box by `&mut`, widened where it stands.
+ghost use Rattle.plane.specs.Bounds.{bounds, Widens};
+use crate::bounds;
+use crate::boxes::Box;
+use crate::refusal::Checked;
+
+// Thin over the box by value: callers that hold no reference use `bounds::widened`.
+pub fn widen(b: &mut Box, x: i32, y: i32) -> Checked
+    ensures { λ r. ⌜ Widens (bounds (now (b .entry))) x y (bounds (now (b .exit))) r ⌝ }
+{
+    *b = bounds::enlarged(*b, x, y);
+    bounds::verdict_on(x, y)
+}

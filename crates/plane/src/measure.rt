@@ -1,0 +1,106 @@
+// The three measures. Each is held as an unsigned number, counted from a far corner of the plane (the prover's arithmetic reads naturals),
+// and nothing outside this module sees which: a sum of two unlike ones does not compile.
+ghost use mathlib.Core.Path.{_≡_};
+ghost use Prim.Native.Nat.{_*_, _^_, _≤_, _<_};
+ghost use lib.Dec.{T};
+ghost use Rattle.plane.specs.Range.{inRange};
+ghost use Rattle.plane.specs.Measures.{gridOf, uOf, vOf, leastOf, greatestOf, gap, lowOf, highOf, nearOf, lowered, unlifted};
+
+// A coordinate x or y, in grid units.
+pub struct Grid(u32);
+
+// A coordinate u or v, in grid units.
+pub struct Tilted(u32);
+
+// A coordinate U or V, in half grid units.
+pub struct Doubled(u32);
+
+// Whether x may be the coordinate of a sink.
+pub fn in_range(x: i32) -> bool
+    ensures { λ r. ⌜ r ≡ inRange x ⌝ }
+{
+    -1000000 <= x && x <= 1000000
+}
+
+pub fn on_grid(x: i32) -> Grid
+    requires { ⌜ T (inRange x) ⌝ }
+    ensures { λ r. ⌜ r ≡ gridOf x ⌝ }
+{
+    Grid((x + 32000000) as u32)
+}
+
+pub fn tilted_u(x: Grid, y: Grid) -> Tilted
+    requires { ⌜ (x .0 ≤ 33000000) × (y .0 ≤ 33000000) ⌝ }
+    ensures { λ r. ⌜ r ≡ uOf x y ⌝ }
+{
+    Tilted(x.0 + y.0)
+}
+
+pub fn tilted_v(x: Grid, y: Grid) -> Tilted
+    requires { ⌜ (x .0 ≤ 33000000) × (y .0 ≤ 33000000) ⌝ }
+    ensures { λ r. ⌜ r ≡ vOf x y ⌝ }
+{
+    Tilted(64000000 + x.0 - y.0)
+}
+
+pub fn least(a: Tilted, b: Tilted) -> Tilted
+    ensures { λ r. ⌜ r ≡ leastOf a b ⌝ }
+{
+    if a.0 <= b.0 { a } else { b }
+}
+
+pub fn greatest(a: Tilted, b: Tilted) -> Tilted
+    ensures { λ r. ⌜ r ≡ greatestOf a b ⌝ }
+{
+    if a.0 <= b.0 { b } else { a }
+}
+
+// How far two values are apart.
+pub fn width(a: Tilted, b: Tilted) -> u32
+    ensures { λ r. ⌜ r ≡ gap (b .0) (a .0) ⌝ }
+{
+    if a.0 <= b.0 { b.0 - a.0 } else { a.0 - b.0 }
+}
+
+// A tilted coordinate, as a number with sign. (That it is small is for the caller's store of the result.)
+pub fn signed(a: Tilted) -> i64
+    ensures { λ r. ⌜ (r ≡ unlifted (a .0)) × (a .0 < 2 ^ 32) ⌝ }
+{
+    (a.0 as i64) - 64000000
+}
+
+// The least and the greatest doubled coordinate of a segment.
+pub fn low_end(hi: Tilted, d: u32) -> Doubled
+    requires { ⌜ (hi .0 ≤ 67000000) × (d ≤ 2 * hi .0) ⌝ }
+    ensures { λ r. ⌜ r ≡ lowOf hi d ⌝ }
+{
+    Doubled(2 * hi.0 - d)
+}
+
+pub fn high_end(lo: Tilted, d: u32) -> Doubled
+    requires { ⌜ (lo .0 ≤ 67000000) × (d ≤ 6000000) ⌝ }
+    ensures { λ r. ⌜ r ≡ highOf lo d ⌝ }
+{
+    Doubled(2 * lo.0 + d)
+}
+
+// The value from lo to hi that is nearest to p.
+pub fn nearest(lo: Doubled, hi: Doubled, p: Doubled) -> Doubled
+    ensures { λ r. ⌜ r ≡ nearOf lo hi p ⌝ }
+{
+    if p.0 <= lo.0 {
+        return lo;
+    }
+    if p.0 <= hi.0 {
+        return p;
+    }
+    if lo.0 <= hi.0 { hi } else { lo }
+}
+
+// A doubled coordinate, as a number with sign.
+pub fn whole(p: Doubled) -> i32
+    requires { ⌜ p .0 ≤ 140000000 ⌝ }
+    ensures { λ r. ⌜ r ≡ lowered (p .0) ⌝ }
+{
+    (p.0 as i32) - 128000000
+}
