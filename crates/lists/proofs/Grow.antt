@@ -9,7 +9,7 @@ use borrow.Author.Tests.{ltb-true, ltb-false, eqb-true, eqb-false}
 use lib.Dec.{ltb, eqb}
 use lib.ListN.{length, getD, take, drop, set, length-append, length-set, List·getD-append}
 use lib.Seq.{take-suc-set, getD-take, drop-cons, set-at, getD-at, getD-set-same, getD-set-other}
-use Rattle.lists.specs.Grow.{more, grow, front, tab, sumTo, upTo}
+use Rattle.lists.specs.Grow.{grow, front, tab, sumTo, upTo}
 
 module _ {A : Type 0} where
   pub length-grow : (f : List A → A) (k : ℕ) → length (grow f k) ≡ k

@@ -16,7 +16,7 @@ use Rattle.plane.specs.Sinks.{outside, firstOutside, checkSinks, Ranged}
 use Rattle.plane.specs.declared.refusal.Refusal.{Refusal}
 use Rattle.plane.specs.declared.refusal.Refusal.the-variants.{Lists, NoSink, TooMany, Outside}
 use Rattle.plane.specs.declared.refusal.Checked.{Checked}
-use Rattle.plane.specs.declared.refusal.Checked.the-variants.{Fine, Refused}
+use Rattle.plane.specs.declared.refusal.Checked.the-variants.{Fine}
 
 -- a line of a check that does not refuse
 pub passed : (t : Bool) (r : Refusal) (e : Checked) → refuseIf t r e ≡ Fine → (t ≡ false) × (e ≡ Fine)

@@ -1,7 +1,7 @@
 -- A box that covers its sinks: of one sink, and of two sets together; its diameter, and its numbers with sign.
-use mathlib.Core.Path.{_≡_, refl, sym}
+use mathlib.Core.Path.{_≡_}
 use mathlib.Core.List.{List, [], _∷_, _++_}
-use Prim.Native.Nat.{ℕ, _+_, _-_, _≤_, _<_, max}
+use Prim.Native.Nat.{ℕ, _+_, _-_, _≤_, _<_}
 use native.Mathlib.Omega.{arith}
 use lib.Dec.{T}
 use lib.IntN.{ℤ, pos, _+ℤ_, _-ℤ_}
@@ -9,8 +9,8 @@ use lib.ListN.{length, getD}
 use Rattle.lists.specs.Grow.{upTo}
 use Rattle.lists.proofs.Grow.{length-upTo, upTo-more}
 use Rattle.zero_skew.specs.Plane.{Sinks, u, v}
-use Rattle.zero_skew.specs.Box.{greatest, least, high, low, boxOf, across, diameter}
-use Rattle.zero_skew.proofs.Whole.{up, down, add-is, minus-is}
+use Rattle.zero_skew.specs.Box.{greatest, least, high, low, boxOf, diameter}
+use Rattle.zero_skew.proofs.Whole.{add-is, minus-is}
 use Rattle.zero_skew.proofs.Hull.{high-is, low-is}
 use Rattle.plane.specs.declared.boxes.Box.{Box}
 use Rattle.plane.specs.Range.{inRange}

@@ -1,23 +1,19 @@
 -- Numbers with sign where they enter and leave the code.
 use mathlib.Core.Path.{_≡_, refl, sym, _∙_}
-use mathlib.Core.Bool.{Bool, true, false, _&&_, cond}
+use mathlib.Core.Bool.{Bool, true, false, _&&_}
 use Prim.Native.Nat.{ℕ, suc, _+_, _-_, _≤_, _<_, _^_}
 use native.Mathlib.Omega.{arith}
 use lib.IntN.{ℤ, pos, negsuc, subℕ, _+ℤ_}
-use lib.Signed.{leZ, mag}
+use lib.Signed.{mag}
 use lib.Dec.{T, leb, leb→le, ltb, eqb}
 use borrow.Author.Tests.{le-ltb, eq-eqb, ne-eqb, eqb-true, eqb-false}
 use mir.Val.{SFits, bits, hbits, ofZ, toZ}
 use mir.Facts.{toZ-ofZ}
 use mir.Syntax.{Width, w32, w64}
 use Rattle.lists.proofs.Tests.{choice}
-use Rattle.plane.specs.declared.measure.Tilted.{Tilted}
 use Rattle.plane.specs.declared.measure.Doubled.{Doubled}
 use Rattle.plane.specs.Range.{inRange, equal}
 use Rattle.plane.specs.Measures.{lift, unlifted, lowered}
-
-abbrev pub tilted : ℕ → Tilted
-tilted n = record { 0 = n }
 
 abbrev pub doubled : ℕ → Doubled
 doubled n = record { 0 = n }

@@ -1,16 +1,15 @@
 -- Two permitted outcomes of a public call coincide.
-use mathlib.Core.Path.{_≡_, refl, sym, ap, _∙_}
+use mathlib.Core.Path.{_≡_, sym, ap, _∙_}
 use mathlib.Core.List.{List}
 use Prim.Native.Nat.{ℕ}
 use native.Mathlib.Omega.{arith}
 use lib.IntN.{ℤ}
-use Rattle.zero_skew.specs.Box.{Bounds}
 use Rattle.plane.specs.declared.boxes.Box.{Box}
 use Rattle.plane.specs.declared.bounds.Boxed.{Boxed}
 use Rattle.plane.specs.declared.bounds.Boxed.the-variants.{Of, NoBox}
 use Rattle.plane.specs.declared.bounds.Widening.{Widening}
 use Rattle.plane.specs.declared.bounds.Extent.{Extent}
-use Rattle.plane.specs.Bounds.{Answer, box, refused, seen, bounds, boundsIn, boxAnswer, Widens}
+use Rattle.plane.specs.Bounds.{seen, bounds, boundsIn, boxAnswer, Widens}
 use Rattle.plane.proofs.Unlifted.{bounds-once}
 
 seen-once : (a b : Boxed) → seen a ≡ seen b → a ≡ b

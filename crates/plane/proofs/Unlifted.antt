@@ -1,7 +1,6 @@
 -- A held box by its numbers with sign: widening it is document 01's, and no two boxes have the same.
-use mathlib.Core.Path.{_≡_, refl, sym, ap, _∙_}
+use mathlib.Core.Path.{_≡_, ap}
 use Prim.Native.Nat.{ℕ, _+_, _-_, min, max}
-use native.Mathlib.Omega.{arith}
 use lib.Dec.{T}
 use lib.IntN.{ℤ, subℕ, _+ℤ_, _-ℤ_}
 use Rattle.zero_skew.specs.Box.{Bounds, larger, smaller, hull, across}

@@ -1,9 +1,11 @@
 -- For the code alone: boxes in lifted numbers.
+use mathlib.Core.List.{List, [], _∷_}
 use Prim.Native.Nat.{ℕ, _≤_, max}
 use lib.IntN.{ℤ}
+use lib.ListN.{getD}
 use Rattle.plane.specs.declared.measure.Tilted.{Tilted}
 use Rattle.plane.specs.declared.boxes.Box.{Box}
-use Rattle.plane.specs.Measures.{gridOf, uOf, vOf, leastOf, greatestOf, gap}
+use Rattle.plane.specs.Measures.{keptAs, gridOf, uOf, vOf, leastOf, greatestOf, gap}
 
 abbrev pub pointBox : Tilted → Tilted → Box
 pointBox u v = record { lu = u; hu = u; lv = v; hv = v }
@@ -25,6 +27,13 @@ hullOf a b =
 -- the larger of the two widths
 unfoldable pub diamOf : Box → ℕ
 diamOf b = max (gap (b .hu .0) (b .lu .0)) (gap (b .hv .0) (b .lv .0))
+
+-- a box as four numbers in memory, and the box that four numbers stand for
+abbrev pub numbersOf : Box → List ℕ
+numbersOf b = b .lu .0 ∷ b .hu .0 ∷ b .lv .0 ∷ b .hv .0 ∷ []
+
+abbrev pub boxIn : List ℕ → Box
+boxIn n = record { lu = keptAs (getD n 0 0); hu = keptAs (getD n 1 0); lv = keptAs (getD n 2 0); hv = keptAs (getD n 3 0) }
 
 -- a box that sinks in range can have
 pub record Fair (b : Box) : Type 0 where

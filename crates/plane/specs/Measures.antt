@@ -22,6 +22,10 @@ unlifted n = subℕ n 64000000
 abbrev pub lowered : ℕ → ℤ
 lowered n = subℕ n 128000000
 
+-- the tilted coordinate that a number stands for
+abbrev pub keptAs : ℕ → Tilted
+keptAs n = record { 0 = n }
+
 abbrev pub gridOf : ℤ → Grid
 gridOf x = record { 0 = lift x }
 

@@ -1,7 +1,7 @@
 // Boxes for callers: the box of all sinks, and a box with one more sink.
 ghost use mathlib.Core.Path.{_≡_};
 ghost use mathlib.Core.List.{[], _∷_};
-ghost use Prim.Native.Nat.{_+_, _-_, _*_, _≤_, _<_};
+ghost use Prim.Native.Nat.{_+_, _-_, _<_};
 ghost use lib.ListN.{length};
 ghost use Rattle.lists.specs.Grow.{upTo};
 ghost use Rattle.zero_skew.specs.Box.{across};

@@ -2,7 +2,7 @@
 ghost use mathlib.Core.Path.{_≡_};
 ghost use lib.Dec.{T};
 ghost use Rattle.plane.specs.Range.{inRange};
-ghost use Rattle.plane.specs.Boxes.{pointBox, sinkBox, hullOf, diamOf};
+ghost use Rattle.plane.specs.Boxes.{pointBox, sinkBox, hullOf, diamOf, numbersOf, boxIn};
 use crate::measure;
 use crate::measure::Tilted;
 
@@ -54,4 +54,27 @@ pub fn diameter(b: Box) -> u32
     let wu = measure::width(b.lu, b.hu);
     let wv = measure::width(b.lv, b.hv);
     if wu <= wv { wv } else { wu }
+}
+
+// A box as four numbers in memory that a caller keeps, and the box that four numbers stand for: any four do.
+pub fn numbers(b: Box) -> [u32; 4]
+    ensures { λ r. ⌜ r ≡ numbersOf b ⌝ }
+{
+    [
+        measure::kept(b.lu),
+        measure::kept(b.hu),
+        measure::kept(b.lv),
+        measure::kept(b.hv),
+    ]
+}
+
+pub fn of_numbers(n: [u32; 4]) -> Box
+    ensures { λ r. ⌜ r ≡ boxIn n ⌝ }
+{
+    Box {
+        lu: measure::standing_for(n[0]),
+        hu: measure::standing_for(n[1]),
+        lv: measure::standing_for(n[2]),
+        hv: measure::standing_for(n[3]),
+    }
 }

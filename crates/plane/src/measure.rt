@@ -4,7 +4,7 @@ ghost use mathlib.Core.Path.{_≡_};
 ghost use Prim.Native.Nat.{_*_, _^_, _≤_, _<_};
 ghost use lib.Dec.{T};
 ghost use Rattle.plane.specs.Range.{inRange};
-ghost use Rattle.plane.specs.Measures.{gridOf, uOf, vOf, leastOf, greatestOf, gap, lowOf, highOf, nearOf, lowered, unlifted};
+ghost use Rattle.plane.specs.Measures.{keptAs, gridOf, uOf, vOf, leastOf, greatestOf, gap, lowOf, highOf, nearOf, lowered, unlifted};
 
 // A coordinate x or y, in grid units.
 pub struct Grid(u32);
@@ -67,6 +67,19 @@ pub fn signed(a: Tilted) -> i64
     ensures { λ r. ⌜ (r ≡ unlifted (a .0)) × (a .0 < 2 ^ 32) ⌝ }
 {
     (a.0 as i64) - 64000000
+}
+
+// The number that stands for a tilted coordinate in memory that a caller keeps, and the coordinate that a number stands for: every number does.
+pub fn kept(a: Tilted) -> u32
+    ensures { λ r. ⌜ r ≡ a .0 ⌝ }
+{
+    a.0
+}
+
+pub fn standing_for(n: u32) -> Tilted
+    ensures { λ r. ⌜ r ≡ keptAs n ⌝ }
+{
+    Tilted(n)
 }
 
 // The least and the greatest doubled coordinate of a segment.

@@ -1,4 +1,6 @@
 // The library's face: all that a caller uses, and nothing else. No function here has a condition on its caller.
+pub use embedding::embed::Embedded;
+pub use embedding::embed::embed;
 pub use plane::bounds::Boxed;
 pub use plane::bounds::Extent;
 pub use plane::bounds::Widening;

@@ -8,7 +8,7 @@ use lib.IntN.{ℤ, pos, _+ℤ_, _-ℤ_}
 use lib.ListN.{length}
 use Rattle.zero_skew.specs.Plane.{Sinks, u, v}
 use Rattle.zero_skew.specs.Box.{larger, smaller, greatest, least, high, low, boxOf, diameter, hull}
-use Rattle.zero_skew.proofs.Whole.{up, down, _⊑_, add-is, minus-is, larger-is, smaller-is}
+use Rattle.zero_skew.proofs.Whole.{_⊑_, add-is, minus-is, larger-is, smaller-is}
 use Rattle.zero_skew.proofs.Lemma1.{greatest-over, least-under, greatest-met, least-met, greatest-within, least-within, diam-within}
 
 -- ---- the ends of a union

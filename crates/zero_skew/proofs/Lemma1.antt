@@ -6,7 +6,7 @@ use Prim.Native.Nat.{ℕ, _+_, _≤_, max}
 use native.Mathlib.Omega.{arith}
 use lib.IntN.{ℤ, pos, _+ℤ_, _-ℤ_, natAbs}
 use Rattle.zero_skew.specs.Plane.{Sinks, dist, u, v}
-use Rattle.zero_skew.specs.Box.{larger, smaller, greatest, least, high, low, width, boxOf, across, diameter, apart}
+use Rattle.zero_skew.specs.Box.{larger, smaller, greatest, least, high, low, width, diameter, apart}
 use Rattle.lists.proofs.Tests.{or-le}
 use Rattle.zero_skew.proofs.Whole.{_⊑_, tilt, larger-l, larger-r, larger-one, smaller-l, smaller-r, smaller-one, moved-out, in-range}
 

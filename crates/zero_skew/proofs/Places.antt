@@ -1,10 +1,10 @@
 -- Doubled places: their distance is the Manhattan distance in half units, and a position in quarters is exact.
-use mathlib.Core.Path.{_≡_, sym, _∙_}
-use Prim.Native.Nat.{ℕ, _+_, _*_, max}
+use mathlib.Core.Path.{_≡_}
+use Prim.Native.Nat.{ℕ, _+_, _*_}
 use native.Mathlib.Omega.{arith}
 use lib.IntN.{ℤ, pos, _+ℤ_, _-ℤ_, _*ℤ_, natAbs}
-use Rattle.zero_skew.specs.Plane.{Place, Sinks, dist, scaled, u, v, twice, quarters, away}
-use Rattle.zero_skew.proofs.Whole.{up, down, add-is, minus-is, times-up, times-down, same, turned, tilt, abs-minus}
+use Rattle.zero_skew.specs.Plane.{Sinks, dist, scaled, u, v, twice, quarters, away}
+use Rattle.zero_skew.proofs.Whole.{add-is, minus-is, times-up, times-down, same, turned, tilt, abs-minus}
 
 -- two places on the grid of quarters are as many half units apart as their doubled coordinates say
 pub doubled-distance : (a b c d : ℤ) → dist (quarters a b) (quarters c d) ≡ 2 * away a b c d

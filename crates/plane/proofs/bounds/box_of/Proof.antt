@@ -1,7 +1,7 @@
 use mathlib.Core.Path.{sym, ap, _∙_}
 use borrow.Author.Needs.{needs}
 use denote.Ref.{now}
-use Rattle.plane.specs.Bounds.{Answer, box, boxAnswer}
+use Rattle.plane.specs.Bounds.{box, boxAnswer}
 use Rattle.plane.proofs.Checks.{accepted}
 use Rattle.plane.proofs.Covering.{covers-box}
 use Rattle.plane.proofs.bounds.box_of.Statement.{statement}

@@ -1,4 +1,3 @@
-use mathlib.Core.Path.{_≡_, refl, sym}
 use mir.Facts.{toZ-ofZ}
 use Rattle.plane.proofs.measure.in_range.Statement.{statement}
 use Rattle.plane.proofs.measure.in_range.Tie as tie

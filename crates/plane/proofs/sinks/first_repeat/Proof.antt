@@ -1,9 +1,9 @@
-use Prim.Native.Nat.{_≤_, _-_}
-use mathlib.Core.Path.{_≡_, sym, _∙_}
+use Prim.Native.Nat.{_-_}
+use mathlib.Core.Path.{sym, _∙_}
 use borrow.Author.Needs.{needs}
 use native.Mathlib.Omega.{arith}
 use lib.ListN.{length}
-use Rattle.plane.specs.Sinks.{outside, together, repeats}
+use Rattle.plane.specs.Sinks.{repeats}
 use Rattle.lists.proofs.First.{Seek, seek-begin, seek-go, seek-stop, seek-end}
 use Rattle.plane.proofs.sinks.first_repeat.Statement.{statement}
 use Rattle.plane.proofs.sinks.first_repeat.Tie as tie

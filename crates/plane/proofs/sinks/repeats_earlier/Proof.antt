@@ -1,9 +1,8 @@
-use Prim.Native.Nat.{_≤_, _-_}
-use mathlib.Core.Path.{_≡_, sym, _∙_}
+use Prim.Native.Nat.{_-_}
+use mathlib.Core.Path.{sym, _∙_}
 use borrow.Author.Needs.{needs}
 use native.Mathlib.Omega.{arith}
-use lib.ListN.{length}
-use Rattle.plane.specs.Sinks.{outside, together, repeats}
+use Rattle.plane.specs.Sinks.{together}
 use Rattle.lists.proofs.First.{Seek, seek-begin, seek-go, seek-yes, seek-no}
 use Rattle.plane.proofs.sinks.repeats_earlier.Statement.{statement}
 use Rattle.plane.proofs.sinks.repeats_earlier.Tie as tie

@@ -1,0 +1,85 @@
+-- The nodes of a valid joining order, the sinks below them and their diameters.
+use mathlib.Core.Path.{_≡_, sym, ap, _∙_}
+use mathlib.Core.Logic.{⊎-elim}
+use mathlib.Core.List.{List, [], _∷_, _++_}
+use Prim.Native.Nat.{ℕ, _+_, _-_, _*_, _≤_, _<_}
+use native.Mathlib.Omega.{arith}
+use borrow.Author.Tests.{lt-ltb, le-ltb}
+use lib.ListN.{length, getD, length-append}
+use Rattle.lists.proofs.Grow.{length-grow, grow-at, grow-low, getD-any}
+use Rattle.zero_skew.specs.Plane.{Sinks}
+use Rattle.zero_skew.specs.Order.{Order, one, both, sinksOf}
+use Rattle.zero_skew.proofs.Hull.{under-l, under-r}
+use Rattle.plane.specs.Boxes.{hullOf}
+use Rattle.plane.specs.Covers.{Covers}
+use Rattle.plane.proofs.Covering.{covers-hull}
+use Rattle.plane.specs.declared.boxes.Box.{Box}
+use Rattle.embedding.specs.Joins.{left, right}
+use Rattle.embedding.specs.Sound.{Ordered}
+use Rattle.embedding.specs.Nodes.{nextNode, node, below, d, parent}
+use Rattle.embedding.specs.Arrays.{middle, Boxes}
+use Rattle.embedding.proofs.Parents.{parent-is-join, parent-above, parent-names}
+
+sinks-some : (o : Order) → 0 < length (sinksOf o)
+unfolding sinksOf
+sinks-some (one i) = omega arith
+sinks-some (both l r) = rw (length-append (sinksOf l) (sinksOf r)) (omega (arith, sinks-some l))
+
+module _ (n : ℕ) (js : List ℕ) (o : Ordered n js) where
+  pub node-sink : (k : ℕ) → k < n → node n js k ≡ one k
+  unfolding node
+  node-sink k h = grow-at (nextNode n js) (2 * n - 1) k (one 0) (omega arith) ∙ rw (length-grow (nextNode n js) k, lt-ltb k n h)
+
+  -- pair i joins its two nodes
+  pub node-join : (i : ℕ) → i < n - 1 → node n js (n + i) ≡ both (node n js (left js i)) (node n js (right js i))
+  unfolding node
+  node-join i h =
+      let q : n + i - n ≡ i = omega arith in
+      grow-at (nextNode n js) (2 * n - 1) (n + i) (one 0) (omega arith)
+      ∙ rw (length-grow (nextNode n js) (n + i), le-ltb (n + i) n (omega arith), q)
+      (rw (
+        grow-low (nextNode n js) (2 * n - 1) (n + i) (left js i) (one 0) (one 0) (o .valid .low-left i h) (omega arith),
+        grow-low (nextNode n js) (2 * n - 1) (n + i) (right js i) (one 0) (one 0) (o .valid .low-right i h) (omega arith),
+      ))
+
+  pub below-sink : (k : ℕ) → k < n → below n js k ≡ k ∷ []
+  unfolding sinksOf
+  below-sink k h = rw (node-sink k h)
+
+  pub below-join : (i : ℕ) → i < n - 1 → below n js (n + i) ≡ below n js (left js i) ++ below n js (right js i)
+  unfolding sinksOf
+  below-join i h = rw (node-join i h)
+
+module _ (s : Sinks) (js : List ℕ) (o : Ordered (s .n) js) where
+  -- the box of a join, from the boxes of the nodes below it
+  pub covers-join : (k : ℕ) → s .n ≤ k → k < 2 * s .n - 1 → (bs : List Box) → k ≤ length bs → Boxes s js k bs
+      → (a b : ℕ) (e : Box) → a ≡ left js (k - s .n) → b ≡ right js (k - s .n) → Covers s (below (s .n) js k) (hullOf (getD bs a e) (getD bs b e))
+  covers-join k h g bs l all a b e p q =
+      let n = s .n in
+      let i = k - n in
+      let w : n + i ≡ k = omega arith in
+      let t : below n js k ≡ below n js (left js i) ++ below n js (right js i) = ap (below n js) (sym w) ∙ below-join n js o i (omega arith) in
+      let lo : left js i < k = omega (arith, o .valid .low-left i (omega arith)) in
+      let hi : right js i < k = omega (arith, o .valid .low-right i (omega arith)) in
+      rw (t, p, q, getD-any bs (left js i) e middle (omega arith), getD-any bs (right js i) e middle (omega arith))
+      (covers-hull s (below n js (left js i)) (below n js (right js i)) (getD bs (left js i) middle) (getD bs (right js i) middle)
+      (sinks-some (node n js (left js i))) (sinks-some (node n js (right js i))) (all (left js i) lo) (all (right js i) hi))
+
+  -- a node's diameter is no larger than its parent's
+  rises-left : (i : ℕ) → i < s .n - 1 → d s js (left js i) ≤ d s js (s .n + i)
+  rises-left i h = rw (below-join (s .n) js o i h) (under-l s (below (s .n) js (left js i)) (below (s .n) js (right js i)))
+
+  rises-right : (i : ℕ) → i < s .n - 1 → d s js (right js i) ≤ d s js (s .n + i)
+  rises-right i h = rw (below-join (s .n) js o i h) (under-r s (below (s .n) js (left js i)) (below (s .n) js (right js i)))
+
+  pub rises : (k : ℕ) → k < 2 * s .n - 2 → d s js k ≤ d s js (parent (s .n) js k)
+  rises k h =
+      let p = parent (s .n) js k in
+      let a = parent-above (s .n) js o k h in
+      let i = p - s .n in
+      let u = parent-is-join (s .n) js o k in
+      let e : s .n + i ≡ p = omega arith in
+      ⊎-elim
+      (λ q. rw (← e) (rw q at (rises-left i (omega arith))))
+      (λ q. rw (← e) (rw q at (rises-right i (omega arith))))
+      (parent-names (s .n) js o k h)

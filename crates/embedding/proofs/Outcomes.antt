@@ -1,0 +1,27 @@
+-- Two permitted outcomes of a call of `embed` coincide.
+use mathlib.Core.Path.{_≡_, sym, ap, _∙_}
+use mathlib.Core.List.{List}
+use Prim.Native.Nat.{ℕ}
+use lib.IntN.{ℤ}
+use Rattle.lists.specs.Grow.{front}
+use Rattle.plane.specs.Sinks.{sinksAt}
+use Rattle.embedding.specs.declared.embed.Embedded.{Embedded}
+use Rattle.embedding.specs.Embedding.{written, placesU, placesV, wires}
+use Rattle.embedding.specs.Permitted.{Permitted}
+
+pub record Same (r r′ : Embedded) (us us′ vs vs′ : List ℤ) (ws ws′ : List ℕ) : Type 0 where
+  pub said : r ≡ r′
+  pub us-same : us ≡ us′
+  pub vs-same : vs ≡ vs′
+  pub ws-same : ws ≡ ws′
+
+pub only-embed : (xs ys : List ℤ) (js : List ℕ) (us vs : List ℤ) (ws : List ℕ) {r r′ : Embedded} {u u′ v v′ : List ℤ} {w w′ : List ℕ}
+    → Permitted xs ys js us vs ws r u v w → Permitted xs ys js us vs ws r′ u′ v′ w′ → Same r r′ u u′ v v′ w w′
+only-embed xs ys js us vs ws {r} {r′} p q =
+    let e : r ≡ r′ = p .answers ∙ sym (q .answers) in
+    record {
+      said = e;
+      us-same = p .writes-u ∙ ap (λ (a : Embedded). front (written a (placesU (sinksAt xs ys) js)) us) e ∙ sym (q .writes-u);
+      vs-same = p .writes-v ∙ ap (λ (a : Embedded). front (written a (placesV (sinksAt xs ys) js)) vs) e ∙ sym (q .writes-v);
+      ws-same = p .writes-w ∙ ap (λ (a : Embedded). front (written a (wires (sinksAt xs ys) js)) ws) e ∙ sym (q .writes-w);
+    }

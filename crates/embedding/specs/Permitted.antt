@@ -1,0 +1,17 @@
+-- What a call of `embed` may do: its contract.
+use mathlib.Core.Path.{_≡_}
+use mathlib.Core.List.{List}
+use Prim.Native.Nat.{ℕ}
+use lib.IntN.{ℤ}
+use lib.ListN.{length}
+use Rattle.lists.specs.Grow.{front}
+use Rattle.plane.specs.Sinks.{sinksAt}
+use Rattle.embedding.specs.declared.embed.Embedded.{Embedded}
+use Rattle.embedding.specs.Embedding.{answer, written, placesU, placesV, wires}
+
+-- the inputs, the three buffers before, the answer, and the three buffers after
+pub record Permitted (xs ys : List ℤ) (js : List ℕ) (us vs : List ℤ) (ws : List ℕ) (said : Embedded) (us′ vs′ : List ℤ) (ws′ : List ℕ) : Type 0 where
+  pub answers : said ≡ answer xs ys js (length us) (length vs) (length ws)
+  pub writes-u : us′ ≡ front (written said (placesU (sinksAt xs ys) js)) us
+  pub writes-v : vs′ ≡ front (written said (placesV (sinksAt xs ys) js)) vs
+  pub writes-w : ws′ ≡ front (written said (wires (sinksAt xs ys) js)) ws

@@ -1,0 +1,34 @@
+// The checks of embedding: refusals 1 to 7.
+ghost use mathlib.Core.Path.{_≡_};
+ghost use Rattle.embedding.specs.Embedding.{checkOrder, checkRoom};
+use crate::joins;
+use plane::refusal::Checked;
+use plane::refusal::Refusal;
+use plane::sinks;
+
+// Refusals 1 to 6: the sinks, then the joins.
+pub fn check_order(xs: &[i32], ys: &[i32], js: &[u16]) -> Checked
+    ensures { λ r. ⌜ r ≡ checkOrder (now (xs .entry)) (now (ys .entry)) (now (js .entry)) ⌝ }
+{
+    let said = sinks::check_sinks(xs, ys, 512);
+    if let Checked::Refused(r) = said {
+        return Checked::Refused(r);
+    }
+    joins::check_joins(js, xs.len())
+}
+
+// Refusal 7: room for all nodes in the buffers of U, V and wires.
+pub fn check_room(all: usize, us: usize, vs: usize, ws: usize) -> Checked
+    ensures { λ r. ⌜ r ≡ checkRoom all us vs ws ⌝ }
+{
+    if us < all {
+        return Checked::Refused(Refusal::Room);
+    }
+    if vs < all {
+        return Checked::Refused(Refusal::Room);
+    }
+    if ws < all {
+        return Checked::Refused(Refusal::Room);
+    }
+    Checked::Fine
+}

@@ -1,0 +1,7 @@
+// Embedding a joining order: the check of the pairs; boxes bottom-up, places top-down, wires and the total.
+pub mod check;
+pub mod embed;
+pub mod joins;
+mod nodes;
+mod places;
+mod wires;

@@ -1,0 +1,3 @@
+-- What the functions for C say and keep.
+pub mod Words
+pub mod Kept

@@ -1,0 +1,31 @@
+-- What a call says, as six numbers: the refusal's number (0: accepted), whether it has a place, the place, a value, the steps, and whether proven.
+use mathlib.Core.List.{List, [], _∷_}
+use Prim.Native.Nat.{ℕ}
+use Rattle.plane.specs.Refusals.{number, place}
+use Rattle.plane.specs.declared.refusal.Refusal.{Refusal}
+use Rattle.plane.specs.declared.refusal.Place.{Place}
+use Rattle.plane.specs.declared.refusal.Place.the-variants.{None, At}
+use Rattle.plane.specs.declared.refusal.Checked.{Checked}
+use Rattle.plane.specs.declared.refusal.Checked.the-variants.{Fine, Refused}
+use Rattle.plane.specs.Bounds.{Answer, box, refused}
+use Rattle.embedding.specs.declared.embed.Embedded.{Embedded}
+use Rattle.embedding.specs.declared.embed.Embedded.the-variants.{Tree, NoTree}
+
+abbrev pub placedWords : ℕ → Place → List ℕ
+placedWords n None = n ∷ 0 ∷ 0 ∷ 0 ∷ 0 ∷ 0 ∷ []
+placedWords n (At i) = n ∷ 1 ∷ i ∷ 0 ∷ 0 ∷ 0 ∷ []
+
+abbrev pub refusalWords : Refusal → List ℕ
+refusalWords r = placedWords (number r) (place r)
+
+abbrev pub checkedWords : Checked → List ℕ
+checkedWords Fine = 0 ∷ 0 ∷ 0 ∷ 0 ∷ 0 ∷ 0 ∷ []
+checkedWords (Refused r) = refusalWords r
+
+abbrev pub boxWords : Answer → List ℕ
+boxWords (box b) = 0 ∷ 0 ∷ 0 ∷ 0 ∷ 0 ∷ 0 ∷ []
+boxWords (refused r) = refusalWords r
+
+abbrev pub treeWords : Embedded → List ℕ
+treeWords (Tree t) = 0 ∷ 0 ∷ 0 ∷ t ∷ 0 ∷ 0 ∷ []
+treeWords (NoTree r) = refusalWords r

@@ -1,0 +1,48 @@
+// What a call says, as six numbers: the refusal's number (0: accepted), whether it has a place, the place, a value, the steps, and whether proven.
+ghost use mathlib.Core.Path.{_≡_};
+ghost use Rattle.skeprafter_c.specs.Words.{refusalWords, checkedWords, treeWords};
+use skeprafter::Checked;
+use skeprafter::Embedded;
+use skeprafter::Place;
+use skeprafter::Refusal;
+
+fn wide(n: u32) -> u64
+    ensures { λ r. ⌜ r ≡ n ⌝ }
+{
+    n as u64
+}
+
+fn number(n: usize) -> u64
+    ensures { λ r. ⌜ r ≡ n ⌝ }
+{
+    n as u64
+}
+
+pub fn of_refusal(r: Refusal) -> [u64; 6]
+    ensures { λ w. ⌜ w ≡ refusalWords r ⌝ }
+{
+    let n = wide(skeprafter::number_of(r));
+    let p = skeprafter::place_of(r);
+    match p {
+        Place::None => [n, 0, 0, 0, 0, 0],
+        Place::At(i) => [n, 1, number(i), 0, 0, 0],
+    }
+}
+
+pub fn of_checked(c: Checked) -> [u64; 6]
+    ensures { λ w. ⌜ w ≡ checkedWords c ⌝ }
+{
+    match c {
+        Checked::Fine => [0, 0, 0, 0, 0, 0],
+        Checked::Refused(r) => of_refusal(r),
+    }
+}
+
+pub fn of_embedded(e: Embedded) -> [u64; 6]
+    ensures { λ w. ⌜ w ≡ treeWords e ⌝ }
+{
+    match e {
+        Embedded::Tree(t) => [0, 0, 0, wide(t), 0, 0],
+        Embedded::NoTree(r) => of_refusal(r),
+    }
+}
