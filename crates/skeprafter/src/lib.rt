@@ -1,6 +1,9 @@
 // The library's face: all that a caller uses, and nothing else. No function here has a condition on its caller.
 pub use embedding::embed::Embedded;
 pub use embedding::embed::embed;
+pub use nearest::order::Joined;
+pub use nearest::order::join_nearest;
+pub use nearest::tree::embed_nearest;
 pub use plane::bounds::Boxed;
 pub use plane::bounds::Extent;
 pub use plane::bounds::Widening;

@@ -1,3 +1,4 @@
 -- What the functions for C say and keep.
 pub mod Words
 pub mod Kept
+pub mod Trees

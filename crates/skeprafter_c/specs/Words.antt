@@ -10,6 +10,8 @@ use Rattle.plane.specs.declared.refusal.Checked.the-variants.{Fine, Refused}
 use Rattle.plane.specs.Bounds.{Answer, box, refused}
 use Rattle.embedding.specs.declared.embed.Embedded.{Embedded}
 use Rattle.embedding.specs.declared.embed.Embedded.the-variants.{Tree, NoTree}
+use Rattle.nearest.specs.declared.order.Joined.{Joined}
+use Rattle.nearest.specs.declared.order.Joined.the-variants.{Order, NoOrder}
 
 abbrev pub placedWords : ℕ → Place → List ℕ
 placedWords n None = n ∷ 0 ∷ 0 ∷ 0 ∷ 0 ∷ 0 ∷ []
@@ -18,14 +20,21 @@ placedWords n (At i) = n ∷ 1 ∷ i ∷ 0 ∷ 0 ∷ 0 ∷ []
 abbrev pub refusalWords : Refusal → List ℕ
 refusalWords r = placedWords (number r) (place r)
 
+abbrev pub accepted : List ℕ
+accepted = 0 ∷ 0 ∷ 0 ∷ 0 ∷ 0 ∷ 0 ∷ []
+
 abbrev pub checkedWords : Checked → List ℕ
-checkedWords Fine = 0 ∷ 0 ∷ 0 ∷ 0 ∷ 0 ∷ 0 ∷ []
+checkedWords Fine = accepted
 checkedWords (Refused r) = refusalWords r
 
 abbrev pub boxWords : Answer → List ℕ
-boxWords (box b) = 0 ∷ 0 ∷ 0 ∷ 0 ∷ 0 ∷ 0 ∷ []
+boxWords (box b) = accepted
 boxWords (refused r) = refusalWords r
 
 abbrev pub treeWords : Embedded → List ℕ
 treeWords (Tree t) = 0 ∷ 0 ∷ 0 ∷ t ∷ 0 ∷ 0 ∷ []
 treeWords (NoTree r) = refusalWords r
+
+abbrev pub orderWords : Joined → List ℕ
+orderWords Order = accepted
+orderWords (NoOrder r) = refusalWords r

@@ -1,8 +1,9 @@
 // What a call says, as six numbers: the refusal's number (0: accepted), whether it has a place, the place, a value, the steps, and whether proven.
 ghost use mathlib.Core.Path.{_≡_};
-ghost use Rattle.skeprafter_c.specs.Words.{refusalWords, checkedWords, treeWords};
+ghost use Rattle.skeprafter_c.specs.Words.{refusalWords, checkedWords, orderWords, treeWords};
 use skeprafter::Checked;
 use skeprafter::Embedded;
+use skeprafter::Joined;
 use skeprafter::Place;
 use skeprafter::Refusal;
 
@@ -44,5 +45,14 @@ pub fn of_embedded(e: Embedded) -> [u64; 6]
     match e {
         Embedded::Tree(t) => [0, 0, 0, wide(t), 0, 0],
         Embedded::NoTree(r) => of_refusal(r),
+    }
+}
+
+pub fn of_joined(j: Joined) -> [u64; 6]
+    ensures { λ w. ⌜ w ≡ orderWords j ⌝ }
+{
+    match j {
+        Joined::Order => [0, 0, 0, 0, 0, 0],
+        Joined::NoOrder(r) => of_refusal(r),
     }
 }

@@ -20,7 +20,7 @@ same-length-3 c = search needs
 returns : tie.Need-returns
 returns c =
     let p = c .before .before .before .before .before .embed .ensures in
-    (rw (p .answers) at p, rw (c .of-embedded .ensures, p .answers))
+    record { does = rw (p .answers) at p; says = rw (c .of-embedded .ensures, p .answers) }
 
 pub skeprafter-embed-spec : {M : Type 1} → statement M
 skeprafter-embed-spec =

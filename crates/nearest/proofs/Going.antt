@@ -1,0 +1,168 @@
+-- The code's lists beside the definition's, from join to join.
+use mathlib.Core.Path.{_≡_, refl, sym, ap, _∙_}
+use mathlib.Core.Bool.{Bool, true, false}
+use mathlib.Core.List.{List, [], _∷_, _++_, append-nil, append-assoc}
+use Prim.Native.Nat.{ℕ, suc, _+_, _-_, _*_, _≤_, _<_}
+use native.Mathlib.Omega.{arith}
+use native.Mathlib.Numerals.{add-one}
+use borrow.Author.Tests.{ltb-true, ltb-false}
+use lib.Dec.{ltb}
+use lib.IntN.{ℤ}
+use lib.ListN.{length, getD, take, drop, set, length-set, take-append-drop, List·getD-append}
+use lib.Seq.{take-suc-set, drop-set-lt, drop-drop, getD-at, length-take-le}
+use Rattle.lists.specs.Grow.{front, upTo}
+use Rattle.lists.proofs.Grow.{grow-at, tab-at}
+use Rattle.zero_skew.specs.Plane.{Sinks}
+use Rattle.plane.specs.Boxes.{hullOf}
+use Rattle.plane.specs.Covers.{Covers}
+use Rattle.plane.specs.Sinks.{sinksAt}
+use Rattle.plane.proofs.Covering.{covers-hull, covers-diam}
+use Rattle.nearest.specs.declared.pair.Pair.{Pair}
+use Rattle.nearest.specs.Nearest.{pair, below, union, best, after, chosen, joins, alone, order}
+use Rattle.nearest.specs.Boxes.{boxAt, reach, Puts, Sinked}
+use Rattle.nearest.specs.Live.{left}
+use Rattle.nearest.specs.Rounds.{Open, Made, Round}
+use Rattle.nearest.proofs.Members.{in-all}
+use Rattle.nearest.proofs.Pairs.{Within, best-within, best-same}
+use Rattle.nearest.proofs.Packed.{left-below, left-rising, left-all, left-after, fresh-after}
+use Rattle.nearest.proofs.Running.{Running, more, running-begin, running-turn}
+
+-- ---- the boxes are those of the sinks below each node
+pub record Held (s : Sinks) (m : ℕ) (sets : List (List ℕ)) (bs : List ℕ) : Type 0 where
+  pub full : (k : ℕ) → k < m → 0 < length (getD sets k [])
+  pub covers : (k : ℕ) → k < m → Covers s (getD sets k []) (boxAt bs k)
+
+module _ {s : Sinks} {m : ℕ} {sets : List (List ℕ)} {bs : List ℕ} where
+  pub held-hull : Held s m sets bs → (a b : ℕ) → a < m → b < m → Covers s (below sets (pair a b)) (hullOf (boxAt bs a) (boxAt bs b))
+  held-hull v a b h g = covers-hull s (getD sets a []) (getD sets b []) (boxAt bs a) (boxAt bs b) (v .full a h) (v .full b g) (v .covers a h) (v .covers b g)
+
+  pub held-same : Held s m sets bs → (a b : ℕ) → a < m → b < m → reach bs a b ≡ union s sets a b
+  unfolding reach
+  held-same v a b h g = covers-diam s (below sets (pair a b)) (hullOf (boxAt bs a) (boxAt bs b)) (held-hull v a b h g)
+
+some : (xs ys : List ℕ) → 0 < length xs → 0 < length (xs ++ ys)
+some [] ys h = let b : ⊥ = omega arith in absurd b
+some (x ∷ xs) ys h = omega arith
+
+-- what holds of each of m lists, and of one more, holds of all
+more-each : (P : ℕ → List ℕ → Type 0) (sets : List (List ℕ)) (l : List ℕ) (m : ℕ) → length sets ≡ m → ((k : ℕ) → k < m → P k (getD sets k [])) → P m l → (k : ℕ) → k < m + 1 → P k (getD (sets ++ (l ∷ [])) k [])
+more-each P sets l m e f p k h = go (ltb k m) refl
+  where
+    go : (t : Bool) → ltb k m ≡ t → P k (getD (sets ++ (l ∷ [])) k [])
+    go true q = let g = ltb-true k m q in rw (List·getD-append sets (l ∷ []) [] k (omega (arith, e))) (f k g)
+    go false q = let g : k ≡ m = omega (arith, ltb-false k m q) in rw (g, getD-at sets l [] [] m e) p
+
+pub held-turn : {s : Sinks} {m : ℕ} {sets : List (List ℕ)} {bs bs′ : List ℕ} (p : Pair) → Held s m sets bs → length sets ≡ m → p .low < m → p .high < m → Puts m (hullOf (boxAt bs (p .low)) (boxAt bs (p .high))) bs bs′ → Held s (m + 1) (more sets p) bs′
+held-turn {s} {m} {sets} {bs} {bs′} p v e h g w =
+    record {
+      full = more-each (λ k l. 0 < length l) sets (below sets p) m e (v .full) (some (getD sets (p .low) []) (getD sets (p .high) []) (v .full (p .low) h));
+      covers = λ k l.
+          more-each (λ i o. Covers s o (boxAt bs′ i)) sets (below sets p) m e (λ i b. rw (w .before i b) (v .covers i b)) (rw (w .here) (held-hull v (p .low) (p .high) h g)) k l;
+    }
+
+alone-at : (n k : ℕ) → k < n → getD (alone n) k [] ≡ k ∷ []
+alone-at n k h = grow-at (λ l. length l ∷ []) n k [] h ∙ tab-at (λ i. i ∷ []) k
+
+pub held-begin : {xs ys : List ℤ} (n : ℕ) {bs : List ℕ} → Sinked xs ys n bs → Held (sinksAt xs ys) n (alone n) bs
+held-begin n v = record { full = λ k h. rw (alone-at n k h) (omega arith); covers = λ k h. rw (alone-at n k h) (v .covers k h) }
+
+-- ---- after i joins of n sinks
+pub record Going (s : Sinks) (n i : ℕ) (bs : List ℕ) (gone : List Bool) (js₀ js : List ℕ) : Type 0 where
+  pub sets : List (List ℕ)
+  pub running : Running n i sets (left gone (n + i))
+  pub held : Held s (n + i) sets bs
+  pub fresh : (k : ℕ) → n + i ≤ k → getD gone k false ≡ false
+  pub is : take (2 * i) js ++ joins s (n - 1 - i) sets (left gone (n + i)) ≡ order s n
+  pub rest : drop (2 * i) js ≡ drop (2 * i) js₀
+  pub size : length js ≡ length js₀
+
+pub going-begin : {xs ys : List ℤ} (n : ℕ) {bs : List ℕ} {gone : List Bool} (js : List ℕ) → Sinked xs ys n bs → ((k : ℕ) → getD gone k false ≡ false) → Going (sinksAt xs ys) n 0 bs gone js js
+unfolding order
+going-begin {xs} {ys} n {bs} {gone} js v z =
+    let e : n + 0 ≡ n = omega arith in
+    let a : left gone (n + 0) ≡ upTo n = rw e (left-all gone z n) in
+    let k : n - 1 - 0 ≡ n - 1 = omega arith in
+    record {
+      sets = alone n;
+      running = rw a (running-begin n);
+      held = rw e (held-begin n v);
+      fresh = λ i h. z i;
+      is = rw (k, a);
+      rest = refl;
+      size = refl;
+    }
+
+-- the code chooses the definition's pair
+pub pick-is : {s : Sinks} {n i : ℕ} {bs : List ℕ} {gone : List Bool} {js₀ js : List ℕ} (v : Going s n i bs gone js₀ js) → best (reach bs) (left gone (n + i)) ≡ chosen s (v .sets) (left gone (n + i))
+pick-is {s} {n} {i} {bs} {gone} v = best-same (reach bs) (union s (v .sets)) (n + i) (held-same (v .held)) (v .running .low)
+
+-- its two nodes are live, and lower than the one that they make
+pub pick-within : (d : ℕ → ℕ → ℕ) (gone : List Bool) (m : ℕ) → 2 ≤ length (left gone m) → Within (left gone m) (best d (left gone m))
+pick-within d gone m h = best-within d (left-rising gone m) h
+
+pub pick-low : (d : ℕ → ℕ → ℕ) (gone : List Bool) (m : ℕ) → 2 ≤ length (left gone m) → (best d (left gone m) .low < m) × (best d (left gone m) .high < m)
+pick-low d gone m h =
+    let w = pick-within d gone m h in
+    (in-all (w .low-in) (left-below gone m), in-all (w .high-in) (left-below gone m))
+
+pub open-low : {n i : ℕ} {bs : List ℕ} {gone : List Bool} {js : List ℕ} (p : Pair) → Open n i bs gone js → p ≡ best (reach bs) (left gone (n + i)) → (p .low < n + i) × (p .high < n + i)
+open-low {n} {i} {bs} {gone} p o e = rw e (pick-low (reach bs) gone (n + i) (o .two))
+
+pub round-of : {n i : ℕ} {bs bs′ : List ℕ} {gone gone′ : List Bool} {js js′ : List ℕ} (p : Pair) → p ≡ best (reach bs) (left gone (n + i)) → Made (n + i) p bs bs′ gone gone′ → js′ ≡ set (set js (2 * i) (p .low)) (2 * i + 1) (p .high) → Round n i bs bs′ gone gone′ js js′
+round-of p e m w = record { made = rw e at m; writes = rw e at w }
+
+two-more : (l : List ℕ) (k a b : ℕ) → k + 1 < length l → take (k + 2) (set (set l k a) (k + 1) b) ≡ take k l ++ (a ∷ b ∷ [])
+two-more l k a b h =
+    let e : k + 2 ≡ suc (k + 1) = omega arith in
+    rw (e, take-suc-set (set l k a) (k + 1) b (rw length-set h), add-one, take-suc-set l k a (omega arith), append-assoc)
+
+module _ {s : Sinks} {n i : ℕ} {bs bs′ : List ℕ} {gone gone′ : List Bool} {js₀ js js′ : List ℕ} where
+  pub going-turn : Going s n i bs gone js₀ js → i + 1 < n → n + i < length gone → 2 * i + 1 < length js → Round n i bs bs′ gone gone′ js js′ → Going s n (i + 1) bs′ gone′ js₀ js′
+  unfolding joins
+  going-turn v h l b d =
+      let live = left gone (n + i) in
+      let p = best (reach bs) live in
+      let q = chosen s (v .sets) live in
+      let many : 2 ≤ length live = omega (arith, v .running .count) in
+      let low = pick-low (reach bs) gone (n + i) many in
+      let up : n + (i + 1) ≡ n + i + 1 = omega arith in
+      let two : 2 * (i + 1) ≡ 2 * i + 2 = omega arith in
+      let less : n - 1 - i ≡ suc (n - 1 - (i + 1)) = omega arith in
+      let next : left gone′ (n + (i + 1)) ≡ after p (n + i) live = rw (up, d .made .marks) (left-after gone p (n + i) (low .0) (low .1) l (v .fresh (n + i) (omega arith))) in
+      record {
+        sets = more (v .sets) p;
+        running = rw next (running-turn p (v .running) h (pick-within (reach bs) gone (n + i) many));
+        held = rw up (held-turn p (v .held) (v .running .size) (low .0) (low .1) (d .made .puts));
+        fresh = rw (up, d .made .marks) (fresh-after gone p (n + i) (low .0) (low .1) l (v .fresh));
+        is =
+            rw (d .writes, two, two-more js (2 * i) (p .low) (p .high) b, append-assoc, next, pick-is v)
+            (let step : joins s (n - 1 - i) (v .sets) live ≡ q .low ∷ q .high ∷ joins s (n - 1 - (i + 1)) (more (v .sets) q) (after q (n + i) live) = rw (less, v .running .size) in
+            rw step at (v .is));
+        rest =
+            rw (d .writes, two)
+            (drop-set-lt (2 * i + 2) (set js (2 * i) (p .low)) (2 * i + 1) (p .high) (omega arith)
+            ∙ drop-set-lt (2 * i + 2) js (2 * i) (p .low) (omega arith)
+            ∙ sym (drop-drop 2 (2 * i) js)
+            ∙ ap (drop 2) (v .rest)
+            ∙ drop-drop 2 (2 * i) js₀);
+        size = rw (d .writes) (simp length-set (v .size));
+      }
+
+pub going-open : {s : Sinks} {n i : ℕ} {bs : List ℕ} {gone : List Bool} {js₀ js : List ℕ} → Going s n i bs gone js₀ js → i + 1 < n → n ≤ 512 → 4092 ≤ length bs → 1023 ≤ length gone → 2 * (n - 1) ≤ length js₀ → Open n i bs gone js
+going-open v h f b g r =
+    record {
+      two = omega (arith, v .running .count);
+      few = omega (arith, v .running .count);
+      small = omega arith;
+      box-room = omega arith;
+      flag-room = omega arith;
+      room = omega (arith, v .size);
+    }
+
+pub going-end : {s : Sinks} {n i : ℕ} {bs : List ℕ} {gone : List Bool} {js₀ js : List ℕ} → Going s n i bs gone js₀ js → i ≡ n - 1 → 2 * (n - 1) ≤ length js₀ → js ≡ front (order s n) js₀
+unfolding joins
+going-end {s} {n} {i} {bs} {gone} {js₀} {js} v e r =
+    let z : n - 1 - i ≡ 0 = omega arith in
+    let o : take (2 * i) js ≡ order s n = sym (append-nil (take (2 * i) js)) ∙ (rw z at (v .is)) in
+    let k : length (order s n) ≡ 2 * i = sym (ap length o) ∙ length-take-le (2 * i) js (omega (arith, v .size)) in
+    rw (k, sym o, sym (v .rest)) (sym (take-append-drop (2 * i) js))

@@ -1,0 +1,53 @@
+-- What the two calls may do: the answer, and what each lent buffer holds after it.
+use mathlib.Core.Path.{_≡_}
+use mathlib.Core.List.{List, []}
+use Prim.Native.Nat.{ℕ, _-_, _*_}
+use lib.Dec.{ltb}
+use lib.IntN.{ℤ}
+use lib.ListN.{length}
+use Rattle.lists.specs.Grow.{front}
+use Rattle.plane.specs.Refusals.{refuseIf}
+use Rattle.plane.specs.Sinks.{sinksAt, checkSinks}
+use Rattle.plane.specs.declared.refusal.Refusal.the-variants.{Room}
+use Rattle.plane.specs.declared.refusal.Checked.{Checked}
+use Rattle.plane.specs.declared.refusal.Checked.the-variants.{Fine, Refused}
+use Rattle.embedding.specs.Embedding.{placesU, placesV, wires, total, andThen, checkRoom, treeAfter, written}
+use Rattle.embedding.specs.declared.embed.Embedded.{Embedded}
+use Rattle.nearest.specs.declared.order.Joined.{Joined}
+use Rattle.nearest.specs.declared.order.Joined.the-variants.{Order, NoOrder}
+use Rattle.nearest.specs.Nearest.{order}
+
+-- the joining order of the sinks that two lists give
+abbrev pub orderAt : List ℤ → List ℤ → List ℕ
+orderAt xs ys = order (sinksAt xs ys) (length xs)
+
+-- ---- joining: refusals 1 to 5, then 7, where the lent buffer has room for so many node numbers
+unfoldable pub checkNearest : List ℤ → List ℤ → ℕ → Checked
+checkNearest xs ys room = andThen (checkSinks 512 xs ys) (refuseIf (ltb room (2 * (length xs - 1))) Room Fine)
+
+abbrev pub orderAfter : Checked → Joined
+orderAfter Fine = Order
+orderAfter (Refused r) = NoOrder r
+
+-- what is written: nothing where there is no order
+abbrev pub ifOrder : Joined → List ℕ → List ℕ
+ifOrder Order l = l
+ifOrder (NoOrder r) l = []
+
+-- the sinks, the buffer before, the answer, the buffer after
+pub record Joining (xs ys : List ℤ) (js : List ℕ) (said : Joined) (js′ : List ℕ) : Type 0 where
+  pub answers : said ≡ orderAfter (checkNearest xs ys (length js))
+  pub writes : js′ ≡ front (ifOrder said (orderAt xs ys)) js
+
+-- ---- joining and embedding: refusals 1 to 5, then 7 over the four buffers; else the total
+unfoldable pub treeAnswer : List ℤ → List ℤ → ℕ → ℕ → ℕ → ℕ → Embedded
+treeAnswer xs ys rj ru rv rw =
+    treeAfter (andThen (checkNearest xs ys rj) (checkRoom (2 * length xs - 1) ru rv rw)) (total (sinksAt xs ys) (orderAt xs ys))
+
+-- the sinks, the four buffers before, the answer, the four buffers after
+pub record Embedding (xs ys : List ℤ) (js : List ℕ) (us vs : List ℤ) (ws : List ℕ) (said : Embedded) (js′ : List ℕ) (us′ vs′ : List ℤ) (ws′ : List ℕ) : Type 0 where
+  pub answers : said ≡ treeAnswer xs ys (length js) (length us) (length vs) (length ws)
+  pub writes-j : js′ ≡ front (written said (orderAt xs ys)) js
+  pub writes-u : us′ ≡ front (written said (placesU (sinksAt xs ys) (orderAt xs ys))) us
+  pub writes-v : vs′ ≡ front (written said (placesV (sinksAt xs ys) (orderAt xs ys))) vs
+  pub writes-w : ws′ ≡ front (written said (wires (sinksAt xs ys) (orderAt xs ys))) ws

@@ -1,0 +1,32 @@
+-- For the code alone: what the checks leave, and what is done then.
+use mathlib.Core.Path.{_≡_}
+use mathlib.Core.List.{List}
+use Prim.Native.Nat.{ℕ, _-_, _*_, _≤_, _<_}
+use lib.IntN.{ℤ}
+use lib.ListN.{length}
+use Rattle.lists.specs.Grow.{front}
+use Rattle.plane.specs.Sinks.{sinksAt, Ranged}
+use Rattle.embedding.specs.Embedding.{placesU, placesV, wires, total}
+use Rattle.nearest.specs.Calls.{orderAt}
+
+-- sinks that were checked, and room for their joins
+pub record Ready (xs ys : List ℤ) (js : List ℕ) : Type 0 where
+  pub ranged : Ranged xs ys
+  pub some : 0 < length xs
+  pub few : length xs ≤ 512
+  pub room : 2 * (length xs - 1) ≤ length js
+
+-- and room for the tree
+pub record ReadyAll (xs ys : List ℤ) (js : List ℕ) (us vs : List ℤ) (ws : List ℕ) : Type 0 where
+  pub ready : Ready xs ys js
+  pub room-u : 2 * length xs - 1 ≤ length us
+  pub room-v : 2 * length xs - 1 ≤ length vs
+  pub room-w : 2 * length xs - 1 ≤ length ws
+
+-- the sinks, the four buffers before, the result, the four buffers after
+pub record Trees (xs ys : List ℤ) (js : List ℕ) (us vs : List ℤ) (ws : List ℕ) (t : ℕ) (js′ : List ℕ) (us′ vs′ : List ℤ) (ws′ : List ℕ) : Type 0 where
+  pub sums : t ≡ total (sinksAt xs ys) (orderAt xs ys)
+  pub writes-j : js′ ≡ front (orderAt xs ys) js
+  pub writes-u : us′ ≡ front (placesU (sinksAt xs ys) (orderAt xs ys)) us
+  pub writes-v : vs′ ≡ front (placesV (sinksAt xs ys) (orderAt xs ys)) vs
+  pub writes-w : ws′ ≡ front (wires (sinksAt xs ys) (orderAt xs ys)) ws

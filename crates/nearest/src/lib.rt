@@ -1,0 +1,6 @@
+// Joining by least diameter.
+pub mod best;
+pub mod order;
+pub mod pair;
+pub mod table;
+pub mod tree;

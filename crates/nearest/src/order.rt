@@ -1,0 +1,103 @@
+// The joining order of sinks.
+ghost use mathlib.Core.Path.{_≡_};
+ghost use Prim.Native.Nat.{_+_, _-_, _*_, _<_};
+ghost use lib.ListN.{length, set};
+ghost use Rattle.lists.specs.Grow.{front};
+ghost use Rattle.nearest.specs.Boxes.{Boxed};
+ghost use Rattle.nearest.specs.Rounds.{Open, Made, Round};
+ghost use Rattle.nearest.specs.Calls.{orderAt, checkNearest, Joining};
+ghost use Rattle.nearest.specs.Ready.{Ready};
+use crate::best;
+use crate::pair::Pair;
+use crate::table;
+use plane::refusal::Checked;
+use plane::refusal::Refusal;
+use plane::sinks;
+
+// What joining by least diameter comes to.
+pub enum Joined {
+    Order,
+    NoOrder(Refusal),
+}
+
+fn narrow(x: usize) -> u16
+    requires { ⌜ x < 65536 ⌝ }
+    ensures { λ r. ⌜ r ≡ x ⌝ }
+{
+    x as u16
+}
+
+// Pair i, the lower number first.
+fn write_pair(js: &mut [u16], i: usize, p: Pair)
+    requires { ⌜ (2 * i + 1 < length (now js)) × (p .low < 65536) × (p .high < 65536) ⌝ }
+    ensures { λ _. ⌜ now (js .exit) ≡ set (set (now (js .entry)) (2 * i) (p .low)) (2 * i + 1) (p .high) ⌝ }
+{
+    let at = 2 * i;
+    js[at] = narrow(p.low);
+    js[at + 1] = narrow(p.high);
+}
+
+// The two of a pair are joined to node m.
+fn join(bs: &mut [u32], gone: &mut [bool], m: usize, p: Pair)
+    requires { ⌜ Boxed (now bs) m × (m < length (now gone)) × (p .low < m) × (p .high < m) ⌝ }
+    ensures { λ _. ⌜ Made m p (now (bs .entry)) (now (bs .exit)) (now (gone .entry)) (now (gone .exit)) ⌝ }
+{
+    table::put_hull(bs, m, p);
+    let low = p.low;
+    let high = p.high;
+    gone[low] = true;
+    gone[high] = true;
+}
+
+// Join i of n sinks: the best pair is joined and written.
+fn round(bs: &mut [u32], gone: &mut [bool], n: usize, i: usize, js: &mut [u16])
+    requires { ⌜ Open n i (now bs) (now gone) (now js) ⌝ }
+    ensures { λ _. ⌜ Round n i (now (bs .entry)) (now (bs .exit)) (now (gone .entry)) (now (gone .exit)) (now (js .entry)) (now (js .exit)) ⌝ }
+{
+    let m = n + i;
+    let p = best::pick(gone, bs, m);
+    join(bs, gone, m, p);
+    write_pair(js, i, p);
+}
+
+// The joining order of sinks that were checked, where the buffer has room for it.
+pub fn order_sound(xs: &[i32], ys: &[i32], js: &mut [u16])
+    requires { ⌜ Ready (now xs) (now ys) (now js) ⌝ }
+    ensures { λ _. ⌜ now (js .exit) ≡ front (orderAt (now (xs .entry)) (now (ys .entry))) (now (js .entry)) ⌝ }
+{
+    let n = xs.len();
+    let mut bs = [0u32; 4092];
+    let mut gone = [false; 1023];
+    table::put_sinks(xs, ys, &mut bs);
+    let mut i = 0;
+    while i + 1 < n {
+        round(&mut bs, &mut gone, n, i, js);
+        i += 1;
+    }
+}
+
+// Refusals 1 to 5, and 7 where the buffer of joins is too short.
+pub fn check_nearest(xs: &[i32], ys: &[i32], room: usize) -> Checked
+    ensures { λ r. ⌜ r ≡ checkNearest (now (xs .entry)) (now (ys .entry)) room ⌝ }
+{
+    let said = sinks::check_sinks(xs, ys, 512);
+    if let Checked::Refused(r) = said {
+        return Checked::Refused(r);
+    }
+    if room < 2 * (xs.len() - 1) {
+        return Checked::Refused(Refusal::Room);
+    }
+    Checked::Fine
+}
+
+// Refusals 1 to 5 and 7, else the joining order in the lent buffer.
+pub fn join_nearest(xs: &[i32], ys: &[i32], js: &mut [u16]) -> Joined
+    ensures { λ r. ⌜ Joining (now (xs .entry)) (now (ys .entry)) (now (js .entry)) r (now (js .exit)) ⌝ }
+{
+    let said = check_nearest(xs, ys, js.len());
+    if let Checked::Refused(r) = said {
+        return Joined::NoOrder(r);
+    }
+    order_sound(xs, ys, js);
+    Joined::Order
+}

@@ -1,0 +1,5 @@
+// Two nodes, the lower number first.
+pub struct Pair {
+    pub low: usize,
+    pub high: usize,
+}

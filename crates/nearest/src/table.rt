@@ -1,0 +1,83 @@
+// The boxes of all nodes in one list of numbers, so that it can be lent: node k's least u, greatest u, least v and greatest v stand at 4k to 4k + 3.
+ghost use mathlib.Core.Path.{_≡_};
+ghost use mathlib.Core.List.{[], _∷_};
+ghost use Prim.Native.Nat.{_*_, _≤_, _<_};
+ghost use lib.ListN.{length};
+ghost use Rattle.plane.specs.Sinks.{sinksAt, Ranged};
+ghost use Rattle.plane.specs.Covers.{Covers};
+ghost use Rattle.plane.specs.Boxes.{hullOf};
+ghost use Rattle.nearest.specs.Boxes.{boxAt, reach, Boxed, Puts, Sinked};
+use crate::pair::Pair;
+use plane::boxes;
+use plane::boxes::Box;
+use plane::measure;
+
+// The box of node k.
+fn box_at(bs: &[u32], k: usize) -> Box
+    requires { ⌜ Boxed (now bs) k ⌝ }
+    ensures { λ r. ⌜ r ≡ boxAt (now (bs .entry)) k ⌝ }
+{
+    let at = 4 * k;
+    Box {
+        lu: measure::standing_for(bs[at]),
+        hu: measure::standing_for(bs[at + 1]),
+        lv: measure::standing_for(bs[at + 2]),
+        hv: measure::standing_for(bs[at + 3]),
+    }
+}
+
+// The box of the union of two nodes.
+fn union_at(bs: &[u32], a: usize, b: usize) -> Box
+    requires { ⌜ Boxed (now bs) a × Boxed (now bs) b ⌝ }
+    ensures { λ r. ⌜ r ≡ hullOf (boxAt (now (bs .entry)) a) (boxAt (now (bs .entry)) b) ⌝ }
+{
+    boxes::hull(box_at(bs, a), box_at(bs, b))
+}
+
+// The diameter of the union of two nodes.
+pub fn across(bs: &[u32], a: usize, b: usize) -> u32
+    requires { ⌜ Boxed (now bs) a × Boxed (now bs) b ⌝ }
+    ensures { λ r. ⌜ r ≡ reach (now (bs .entry)) a b ⌝ }
+{
+    boxes::diameter(union_at(bs, a, b))
+}
+
+fn put_box(bs: &mut [u32], k: usize, b: Box)
+    requires { ⌜ Boxed (now bs) k ⌝ }
+    ensures { λ _. ⌜ Puts k b (now (bs .entry)) (now (bs .exit)) ⌝ }
+{
+    let at = 4 * k;
+    bs[at] = measure::kept(b.lu);
+    bs[at + 1] = measure::kept(b.hu);
+    bs[at + 2] = measure::kept(b.lv);
+    bs[at + 3] = measure::kept(b.hv);
+}
+
+// Node m's box: the hull of a pair.
+pub fn put_hull(bs: &mut [u32], m: usize, p: Pair)
+    requires { ⌜ Boxed (now bs) m × (p .low < m) × (p .high < m) ⌝ }
+    ensures { λ _. ⌜ Puts m (hullOf (boxAt (now (bs .entry)) (p .low)) (boxAt (now (bs .entry)) (p .high))) (now (bs .entry)) (now (bs .exit)) ⌝ }
+{
+    let b = union_at(bs, p.low, p.high);
+    put_box(bs, m, b);
+}
+
+// The box of sink i.
+fn sink_at(xs: &[i32], ys: &[i32], i: usize) -> Box
+    requires { ⌜ Ranged (now xs) (now ys) × (i < length (now xs)) ⌝ }
+    ensures { λ r. ⌜ Covers (sinksAt (now (xs .entry)) (now (ys .entry))) (i ∷ []) r ⌝ }
+{
+    boxes::sink_box(xs[i], ys[i])
+}
+
+// The boxes of all sinks.
+pub fn put_sinks(xs: &[i32], ys: &[i32], bs: &mut [u32])
+    requires { ⌜ Ranged (now xs) (now ys) × (4 * length (now xs) ≤ length (now bs)) ⌝ }
+    ensures { λ _. ⌜ Sinked (now (xs .entry)) (now (ys .entry)) (length (now (xs .entry))) (now (bs .exit)) ⌝ }
+{
+    let mut i = 0;
+    while i < xs.len() {
+        put_box(bs, i, sink_at(xs, ys, i));
+        i += 1;
+    }
+}
