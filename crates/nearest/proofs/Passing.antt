@@ -13,13 +13,13 @@ use Rattle.plane.specs.declared.refusal.Checked.the-variants.{Fine}
 use Rattle.plane.proofs.Checks.{passed, accepted}
 use Rattle.embedding.proofs.Accepted.{both-pass}
 use Rattle.nearest.specs.Calls.{checkNearest}
-use Rattle.nearest.specs.Ready.{Ready}
+use Rattle.nearest.specs.Ready.{CanJoin}
 
 pub sinks-fine : (xs ys : List ℤ) (room : ℕ) → checkNearest xs ys room ≡ Fine → checkSinks 512 xs ys ≡ Fine
 unfolding checkNearest
 sinks-fine xs ys room e = both-pass (checkSinks 512 xs ys) (refuseIf (ltb room (2 * (length xs - 1))) Room Fine) e .0
 
-pub ready : (xs ys : List ℤ) (js : List ℕ) → checkNearest xs ys (length js) ≡ Fine → Ready xs ys js
+pub ready : (xs ys : List ℤ) (js : List ℕ) → checkNearest xs ys (length js) ≡ Fine → CanJoin xs ys js
 unfolding checkNearest
 ready xs ys js e =
     let (p, q) = both-pass (checkSinks 512 xs ys) (refuseIf (ltb (length js) (2 * (length xs - 1))) Room Fine) e in

@@ -10,7 +10,7 @@ use Rattle.lists.specs.Grow.{front}
 use Rattle.plane.specs.Sinks.{sinksAt}
 use Rattle.embedding.specs.Sound.{Sound}
 use Rattle.nearest.specs.Calls.{orderAt}
-use Rattle.nearest.specs.Ready.{Ready}
+use Rattle.nearest.specs.Ready.{CanJoin}
 use Rattle.nearest.proofs.Validity.{order-valid}
 
 pub order-taken : (xs ys : List ℤ) (js js′ : List ℕ) → 0 < length xs → js′ ≡ front (orderAt xs ys) js → take (2 * (length xs - 1) - 0) js′ ≡ orderAt xs ys
@@ -18,6 +18,6 @@ order-taken xs ys js js′ h e =
     let v = order-valid (sinksAt xs ys) (length xs) h in
     rw e (take-at (orderAt xs ys) (drop (length (orderAt xs ys)) js) (2 * (length xs - 1) - 0) (omega (arith, v .count)))
 
-pub order-sounds : {xs ys : List ℤ} {js : List ℕ} → Ready xs ys js → Sound xs ys (orderAt xs ys)
+pub order-sounds : {xs ys : List ℤ} {js : List ℕ} → CanJoin xs ys js → Sound xs ys (orderAt xs ys)
 order-sounds {xs} {ys} r =
     record { sinks = r .ranged; joins = record { some = r .some; few = r .few; valid = order-valid (sinksAt xs ys) (length xs) (r .some) } }

@@ -10,15 +10,15 @@ use Rattle.embedding.specs.Embedding.{placesU, placesV, wires, total}
 use Rattle.nearest.specs.Calls.{orderAt}
 
 -- sinks that were checked, and room for their joins
-pub record Ready (xs ys : List ℤ) (js : List ℕ) : Type 0 where
+pub record CanJoin (xs ys : List ℤ) (js : List ℕ) : Type 0 where
   pub ranged : Ranged xs ys
   pub some : 0 < length xs
   pub few : length xs ≤ 512
   pub room : 2 * (length xs - 1) ≤ length js
 
 -- and room for the tree
-pub record ReadyAll (xs ys : List ℤ) (js : List ℕ) (us vs : List ℤ) (ws : List ℕ) : Type 0 where
-  pub ready : Ready xs ys js
+pub record CanBuild (xs ys : List ℤ) (js : List ℕ) (us vs : List ℤ) (ws : List ℕ) : Type 0 where
+  pub ready : CanJoin xs ys js
   pub room-u : 2 * length xs - 1 ≤ length us
   pub room-v : 2 * length xs - 1 ≤ length vs
   pub room-w : 2 * length xs - 1 ≤ length ws

@@ -6,7 +6,7 @@ ghost use Rattle.lists.specs.Grow.{front};
 ghost use Rattle.nearest.specs.Boxes.{Boxed};
 ghost use Rattle.nearest.specs.Rounds.{Open, Made, Round};
 ghost use Rattle.nearest.specs.Calls.{orderAt, checkNearest, Joining};
-ghost use Rattle.nearest.specs.Ready.{Ready};
+ghost use Rattle.nearest.specs.Ready.{CanJoin};
 use crate::best;
 use crate::pair::Pair;
 use crate::table;
@@ -62,7 +62,7 @@ fn round(bs: &mut [u32], gone: &mut [bool], n: usize, i: usize, js: &mut [u16])
 
 // The joining order of sinks that were checked, where the buffer has room for it.
 pub fn order_sound(xs: &[i32], ys: &[i32], js: &mut [u16])
-    requires { ⌜ Ready (now xs) (now ys) (now js) ⌝ }
+    requires { ⌜ CanJoin (now xs) (now ys) (now js) ⌝ }
     ensures { λ _. ⌜ now (js .exit) ≡ front (orderAt (now (xs .entry)) (now (ys .entry))) (now (js .entry)) ⌝ }
 {
     let n = xs.len();

@@ -1,6 +1,6 @@
 // The tree of joining by least diameter: the joining order and its embedding.
 ghost use Rattle.nearest.specs.Calls.{Embedding};
-ghost use Rattle.nearest.specs.Ready.{ReadyAll, Trees};
+ghost use Rattle.nearest.specs.Ready.{CanBuild, Trees};
 use crate::order;
 use embedding::check;
 use embedding::embed;
@@ -16,7 +16,7 @@ pub fn tree_sound(
     vs: &mut [i32],
     ws: &mut [u32],
 ) -> u32
-    requires { ⌜ ReadyAll (now xs) (now ys) (now js) (now us) (now vs) (now ws) ⌝ }
+    requires { ⌜ CanBuild (now xs) (now ys) (now js) (now us) (now vs) (now ws) ⌝ }
     ensures { λ r. ⌜ Trees (now (xs .entry)) (now (ys .entry)) (now (js .entry)) (now (us .entry)) (now (vs .entry)) (now (ws .entry)) r (now (js .exit)) (now (us .exit)) (now (vs .exit)) (now (ws .exit)) ⌝ }
 {
     order::order_sound(xs, ys, js);

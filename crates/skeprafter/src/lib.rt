@@ -18,3 +18,6 @@ pub use plane::refusal::Place;
 pub use plane::refusal::Refusal;
 pub use plane::refusal::number_of;
 pub use plane::refusal::place_of;
+pub use search::search::Found;
+pub use search::search::Searched;
+pub use search::search::search;

@@ -2,3 +2,4 @@
 pub mod Words
 pub mod Kept
 pub mod Trees
+pub mod Searched

@@ -1,4 +1,5 @@
 -- What a call says, as six numbers: the refusal's number (0: accepted), whether it has a place, the place, a value, the steps, and whether proven.
+use mathlib.Core.Bool.{Bool, true, false}
 use mathlib.Core.List.{List, [], _∷_}
 use Prim.Native.Nat.{ℕ}
 use Rattle.plane.specs.Refusals.{number, place}
@@ -9,9 +10,11 @@ use Rattle.plane.specs.declared.refusal.Checked.{Checked}
 use Rattle.plane.specs.declared.refusal.Checked.the-variants.{Fine, Refused}
 use Rattle.plane.specs.Bounds.{Answer, box, refused}
 use Rattle.embedding.specs.declared.embed.Embedded.{Embedded}
-use Rattle.embedding.specs.declared.embed.Embedded.the-variants.{Tree, NoTree}
+use Rattle.embedding.specs.declared.embed.Embedded.the-variants as embedded
 use Rattle.nearest.specs.declared.order.Joined.{Joined}
 use Rattle.nearest.specs.declared.order.Joined.the-variants.{Order, NoOrder}
+use Rattle.search.specs.declared.search.Searched.{Searched}
+use Rattle.search.specs.declared.search.Searched.the-variants.{Tree, NoTree}
 
 abbrev pub placedWords : ℕ → Place → List ℕ
 placedWords n None = n ∷ 0 ∷ 0 ∷ 0 ∷ 0 ∷ 0 ∷ []
@@ -32,9 +35,17 @@ boxWords (box b) = accepted
 boxWords (refused r) = refusalWords r
 
 abbrev pub treeWords : Embedded → List ℕ
-treeWords (Tree t) = 0 ∷ 0 ∷ 0 ∷ t ∷ 0 ∷ 0 ∷ []
-treeWords (NoTree r) = refusalWords r
+treeWords (embedded.Tree t) = 0 ∷ 0 ∷ 0 ∷ t ∷ 0 ∷ 0 ∷ []
+treeWords (embedded.NoTree r) = refusalWords r
 
 abbrev pub orderWords : Joined → List ℕ
 orderWords Order = accepted
 orderWords (NoOrder r) = refusalWords r
+
+abbrev pub markWord : Bool → ℕ
+markWord true = 1
+markWord false = 0
+
+abbrev pub searchWords : Searched → List ℕ
+searchWords (Tree f) = 0 ∷ 0 ∷ 0 ∷ f .total ∷ f .steps ∷ markWord (f .proven) ∷ []
+searchWords (NoTree r) = refusalWords r

@@ -1,11 +1,12 @@
 // What a call says, as six numbers: the refusal's number (0: accepted), whether it has a place, the place, a value, the steps, and whether proven.
 ghost use mathlib.Core.Path.{_≡_};
-ghost use Rattle.skeprafter_c.specs.Words.{refusalWords, checkedWords, orderWords, treeWords};
+ghost use Rattle.skeprafter_c.specs.Words.{refusalWords, checkedWords, orderWords, treeWords, markWord, searchWords};
 use skeprafter::Checked;
 use skeprafter::Embedded;
 use skeprafter::Joined;
 use skeprafter::Place;
 use skeprafter::Refusal;
+use skeprafter::Searched;
 
 fn wide(n: u32) -> u64
     ensures { λ r. ⌜ r ≡ n ⌝ }
@@ -54,5 +55,20 @@ pub fn of_joined(j: Joined) -> [u64; 6]
     match j {
         Joined::Order => [0, 0, 0, 0, 0, 0],
         Joined::NoOrder(r) => of_refusal(r),
+    }
+}
+
+fn mark(proven: bool) -> u64
+    ensures { λ r. ⌜ r ≡ markWord proven ⌝ }
+{
+    if proven { 1 } else { 0 }
+}
+
+pub fn of_searched(s: Searched) -> [u64; 6]
+    ensures { λ w. ⌜ w ≡ searchWords s ⌝ }
+{
+    match s {
+        Searched::Tree(f) => [0, 0, 0, wide(f.total), f.steps, mark(f.proven)],
+        Searched::NoTree(r) => of_refusal(r),
     }
 }

@@ -1,5 +1,5 @@
 use mathlib.Core.Bool.{false}
-use lib.ListN.{getD}
+use lib.ListN.{getD, length}
 use Prim.Native.Nat.{_<_}
 use Prim.Native.Nat.{_-_}
 use mathlib.Core.Path.{_≡_, refl, sym}
@@ -23,22 +23,21 @@ loop-holds c = record { part = omega arith; size = refl; count = refl; made = re
 shared-slice-read-if1 : tie.Need-shared-slice-read-if1 Inv-loop μ-loop
 shared-slice-read-if1 c = omega arith
 
-mul-live : tie.Need-mul-live Inv-loop μ-loop
-mul-live c =
+-- a node that is not gone has room
+room : (c : tie.Then1 Inv-loop μ-loop) → c .before .before .before .loop .w < length (c .before .before .before .loop .live)
+room c =
     let s = c .before .before .before .before in
-    let r = listing-room (c .before .before .before .loop .inv) (c .before .before .loop-test .taken) (s .pre .1) (not-true (getD (now (s .args .gone)) (c .before .before .before .loop .k) false) (c .if1 .taken)) in
-    omega (arith, r, c .before .before .before .loop .inv .size)
+    let l = c .before .before .before .loop in
+    listing-room (l .inv) (c .before .before .loop-test .taken) (s .pre .1) (not-true (getD (now (s .args .gone)) (l .k) false) (c .if1 .taken))
+
+mul-live : tie.Need-mul-live Inv-loop μ-loop
+mul-live c = omega (arith, room c, c .before .before .before .loop .inv .size)
 
 slice-write-live : tie.Need-slice-write-live Inv-loop μ-loop
-slice-write-live c =
-    let s = c .before .before .before .before in
-    listing-room (c .before .before .before .loop .inv) (c .before .before .loop-test .taken) (s .pre .1) (not-true (getD (now (s .args .gone)) (c .before .before .before .loop .k) false) (c .if1 .taken))
+slice-write-live c = room c
 
 add-w : tie.Need-add-w Inv-loop μ-loop
-add-w c =
-    let s = c .before .before .before .before in
-    let r = listing-room (c .before .before .before .loop .inv) (c .before .before .loop-test .taken) (s .pre .1) (not-true (getD (now (s .args .gone)) (c .before .before .before .loop .k) false) (c .if1 .taken)) in
-    omega (arith, r, c .before .before .before .loop .inv .size)
+add-w c = omega (arith, room c, c .before .before .before .loop .inv .size)
 
 add-k : tie.Need-add-k Inv-loop μ-loop
 add-k c = omega arith

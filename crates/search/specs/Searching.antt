@@ -1,0 +1,57 @@
+-- Document 01, "The exact search": the answer and what the lent buffers hold after the call.
+use mathlib.Core.Path.{_≡_}
+use mathlib.Core.Bool.{cond}
+use mathlib.Core.List.{List, []}
+use Prim.Native.Nat.{ℕ, _+_, _-_, _*_, _^_, min}
+use lib.Dec.{leb}
+use lib.IntN.{ℤ}
+use lib.ListN.{length}
+use Rattle.lists.specs.Grow.{front}
+use Rattle.zero_skew.specs.Plane.{Sinks}
+use Rattle.plane.specs.Sinks.{sinksAt}
+use Rattle.plane.specs.declared.refusal.Checked.{Checked}
+use Rattle.plane.specs.declared.refusal.Checked.the-variants.{Fine, Refused}
+use Rattle.embedding.specs.Embedding.{placesU, placesV, wires, total}
+use Rattle.nearest.specs.Nearest.{order}
+use Rattle.search.specs.declared.search.Found.{Found}
+use Rattle.search.specs.declared.search.Searched.{Searched}
+use Rattle.search.specs.declared.search.Searched.the-variants.{Tree, NoTree}
+use Rattle.search.specs.Subsets.{diam}
+use Rattle.search.specs.Best.{stepCount}
+use Rattle.search.specs.Table.{tableAfter}
+use Rattle.search.specs.Kept.{keptOrder, pairsOf}
+use Rattle.search.specs.Rooms.{checkSearch}
+
+-- the work table of the sinks after `budget` steps, or all there are
+abbrev pub tableOf : Sinks → ℕ → List ℕ
+tableOf s budget = tableAfter (diam s) (s .n) budget
+
+-- "with the kept splits as a tree": of all sinks
+abbrev pub keptJoins : Sinks → ℕ → List ℕ
+keptJoins s budget = pairsOf (s .n) (keptOrder (diam s) (tableOf s budget) (2 ^ s .n - 1)) 0
+
+-- "Budget at least F(n): proven, with the kept splits as a tree .. Smaller budget: unproven, with the tree of joining by least diameter."
+unfoldable pub joinsFound : Sinks → ℕ → List ℕ
+joinsFound s budget = cond (leb (stepCount (s .n)) budget) (keptJoins s budget) (order s (s .n))
+
+-- "the steps reported equal the smaller of the budget and F(n)"
+unfoldable pub found : Sinks → ℕ → Found
+found s budget = record { total = total s (joinsFound s budget); steps = min budget (stepCount (s .n)); proven = leb (stepCount (s .n)) budget }
+
+abbrev pub foundAfter : Checked → Found → Searched
+foundAfter Fine f = Tree f
+foundAfter (Refused r) f = NoTree r
+
+-- "A refusal changes no lent byte": what is written, from the front of a buffer
+abbrev pub ifTree : {A : Type 0} → Searched → List A → List A
+ifTree (Tree f) l = l
+ifTree (NoTree r) l = []
+
+-- the inputs, the five buffers before, the answer, and the five buffers after
+pub record Searches (xs ys : List ℤ) (budget : ℕ) (table js : List ℕ) (us vs : List ℤ) (ws : List ℕ) (said : Searched) (table′ js′ : List ℕ) (us′ vs′ : List ℤ) (ws′ : List ℕ) : Type 0 where
+  pub answers : said ≡ foundAfter (checkSearch xs ys (length table) (length js) (length us) (length vs) (length ws)) (found (sinksAt xs ys) budget)
+  pub writes-table : table′ ≡ front (ifTree said (tableOf (sinksAt xs ys) budget)) table
+  pub writes-js : js′ ≡ front (ifTree said (joinsFound (sinksAt xs ys) budget)) js
+  pub writes-u : us′ ≡ front (ifTree said (placesU (sinksAt xs ys) (joinsFound (sinksAt xs ys) budget))) us
+  pub writes-v : vs′ ≡ front (ifTree said (placesV (sinksAt xs ys) (joinsFound (sinksAt xs ys) budget))) vs
+  pub writes-w : ws′ ≡ front (ifTree said (wires (sinksAt xs ys) (joinsFound (sinksAt xs ys) budget))) ws

@@ -1,0 +1,35 @@
+-- The square of distances, by which the code finds a subset's diameter.
+use mathlib.Core.Path.{_≡_}
+use mathlib.Core.List.{List, [], _∷_}
+use Prim.Native.Nat.{ℕ, _≤_, _<_, max}
+use lib.ListN.{getD}
+use Rattle.zero_skew.specs.Plane.{Sinks, dist}
+use Rattle.search.specs.Subsets.{sinksIn}
+
+abbrev pub entry : List (List ℕ) → ℕ → ℕ → ℕ
+entry q i j = getD (getD q i []) j 0
+
+-- "The exact search keeps distances between sinks in a square of twelve rows by twelve; rows and columns from n on hold 0."
+pub record Square (s : Sinks) (q : List (List ℕ)) : Type 0 where
+  pub near : (i j : ℕ) → i < s .n → j < s .n → entry q i j ≡ dist (s .at i) (s .at j)
+  pub no-row : (i j : ℕ) → s .n ≤ i → entry q i j ≡ 0
+  pub no-column : (i j : ℕ) → s .n ≤ j → entry q i j ≡ 0
+
+-- for the code alone: a row holds the distances from sink i to the first k sinks, and then 0
+pub record RowOf (s : Sinks) (i k : ℕ) (row : List ℕ) : Type 0 where
+  pub near : (j : ℕ) → j < k → getD row j 0 ≡ dist (s .at i) (s .at j)
+  pub none : (j : ℕ) → k ≤ j → getD row j 0 ≡ 0
+
+-- for the code alone: the greatest distance to one of l, from a row of the square
+unfoldable pub farthestOf : List ℕ → List ℕ → ℕ
+farthestOf row [] = 0
+farthestOf row (b ∷ l) = max (getD row b 0) (farthestOf row l)
+
+-- for the code alone: the greatest distance of two of l
+unfoldable pub widestOf : List (List ℕ) → List ℕ → ℕ
+widestOf q [] = 0
+widestOf q (a ∷ l) = max (farthestOf (getD q a []) l) (widestOf q l)
+
+-- for the code alone: the greatest distance of two sinks of a subset
+unfoldable pub widest : List (List ℕ) → ℕ → ℕ
+widest q m = widestOf q (sinksIn 32 m)

@@ -1,0 +1,389 @@
+//! Inputs for comparisons: sinks, joining orders, budgets and file damage,
+//! all drawn from one seed so that any finding can be run again.
+
+use crate::plane::REACH;
+use crate::search::full_steps;
+use std::collections::HashSet;
+
+/// A small generator of the splitmix64 family.
+#[derive(Clone, Debug)]
+pub struct Random {
+    state: u64,
+}
+
+impl Random {
+    /// Equal seeds give equal numbers.
+    pub fn new(seed: u64) -> Random {
+        Random { state: seed }
+    }
+
+    /// The next 64 bits.
+    pub fn next_bits(&mut self) -> u64 {
+        self.state = self.state.wrapping_add(0x9E37_79B9_7F4A_7C15);
+        let mut z = self.state;
+        z = (z ^ (z >> 30)).wrapping_mul(0xBF58_476D_1CE4_E5B9);
+        z = (z ^ (z >> 27)).wrapping_mul(0x94D0_49BB_1331_11EB);
+        z ^ (z >> 31)
+    }
+
+    /// A number below `bound` (1 or more). The slight lean of a remainder
+    /// does no harm to a comparison.
+    pub fn below(&mut self, bound: usize) -> usize {
+        (self.next_bits() % bound as u64) as usize
+    }
+
+    /// A number from `least` to `greatest`, both included.
+    pub fn between(&mut self, least: i32, greatest: i32) -> i32 {
+        let span = i64::from(greatest) - i64::from(least) + 1;
+        let offset = (self.next_bits() % span as u64) as i64;
+        (i64::from(least) + offset) as i32
+    }
+
+    /// One of the given things.
+    pub fn pick<T: Copy>(&mut self, things: &[T]) -> T {
+        things[self.below(things.len())]
+    }
+}
+
+/// How sinks are spread.
+#[derive(Clone, Copy, Debug, PartialEq, Eq)]
+pub enum SinkKind {
+    /// Over the whole range.
+    Uniform,
+    /// In a small square, so that many diameters tie.
+    Clustered,
+    /// On one line, level, upright or tilted.
+    Collinear,
+    /// At least one coordinate at ±1,000,000, corners often.
+    Extreme,
+    /// With pins on one place, so that refusal 5 occurs (from 2 sinks on).
+    Coinciding,
+    /// With at least one coordinate outside, so that refusal 4 occurs.
+    OutOfRange,
+}
+
+impl SinkKind {
+    /// The kinds that are accepted: distinct places within the range.
+    pub const GOOD: [SinkKind; 4] = [
+        SinkKind::Uniform,
+        SinkKind::Clustered,
+        SinkKind::Collinear,
+        SinkKind::Extreme,
+    ];
+    /// All kinds.
+    pub const ALL: [SinkKind; 6] = [
+        SinkKind::Uniform,
+        SinkKind::Clustered,
+        SinkKind::Collinear,
+        SinkKind::Extreme,
+        SinkKind::Coinciding,
+        SinkKind::OutOfRange,
+    ];
+}
+
+/// The lists of x and y of `n` sinks.
+pub fn sinks(random: &mut Random, kind: SinkKind, n: usize) -> (Vec<i32>, Vec<i32>) {
+    match kind {
+        SinkKind::Uniform => distinct(random, n, uniform_sink),
+        SinkKind::Clustered => clustered(random, n),
+        SinkKind::Collinear => collinear(random, n),
+        SinkKind::Extreme => distinct(random, n, extreme_sink),
+        SinkKind::Coinciding => coinciding(random, n),
+        SinkKind::OutOfRange => out_of_range(random, n),
+    }
+}
+
+/// Draws until `n` different places are found; the drawing must offer many
+/// more places than that.
+fn distinct(
+    random: &mut Random,
+    n: usize,
+    mut draw: impl FnMut(&mut Random) -> (i32, i32),
+) -> (Vec<i32>, Vec<i32>) {
+    let mut taken = HashSet::new();
+    let (mut x, mut y) = (Vec::new(), Vec::new());
+    while x.len() < n {
+        let sink = draw(random);
+        if taken.insert(sink) {
+            x.push(sink.0);
+            y.push(sink.1);
+        }
+    }
+    (x, y)
+}
+
+fn uniform_sink(random: &mut Random) -> (i32, i32) {
+    (random.between(-REACH, REACH), random.between(-REACH, REACH))
+}
+
+/// Corners are kept rare enough that 512 different sinks are soon found.
+fn extreme_sink(random: &mut Random) -> (i32, i32) {
+    let edge = random.pick(&[-REACH, REACH]);
+    let other = match random.below(4) {
+        0 => random.pick(&[-REACH, REACH]),
+        1 => random.pick(&[-REACH + 1, 0, REACH - 1]),
+        _ => random.between(-REACH, REACH),
+    };
+    match random.below(2) {
+        0 => (edge, other),
+        _ => (other, edge),
+    }
+}
+
+fn clustered(random: &mut Random, n: usize) -> (Vec<i32>, Vec<i32>) {
+    // About four cells for each sink: crowded, yet quickly drawn.
+    let side = (1..).find(|side| side * side >= 4 * n).unwrap_or(n) as i32;
+    let left = random.between(-REACH, REACH - side);
+    let low = random.between(-REACH, REACH - side);
+    distinct(random, n, |random| {
+        (
+            left + random.between(0, side),
+            low + random.between(0, side),
+        )
+    })
+}
+
+fn collinear(random: &mut Random, n: usize) -> (Vec<i32>, Vec<i32>) {
+    let (dx, dy) = random.pick(&[(1, 0), (0, 1), (1, 1), (1, -1), (2, 1), (-1, 3)]);
+    let x = random.between(-REACH / 4, REACH / 4);
+    let y = random.between(-REACH / 4, REACH / 4);
+    let reach = random.pick(&[2 * n as i32 + 1, REACH / 4]);
+    distinct(random, n, |random| {
+        let along = random.between(-reach, reach);
+        (x + dx * along, y + dy * along)
+    })
+}
+
+fn coinciding(random: &mut Random, n: usize) -> (Vec<i32>, Vec<i32>) {
+    let (mut x, mut y) = clustered(random, n);
+    if n >= 2 {
+        for _ in 0..1 + random.below(3) {
+            let later = 1 + random.below(n - 1);
+            let earlier = random.below(later);
+            x[later] = x[earlier];
+            y[later] = y[earlier];
+        }
+    }
+    (x, y)
+}
+
+fn out_of_range(random: &mut Random, n: usize) -> (Vec<i32>, Vec<i32>) {
+    let (mut x, mut y) = distinct(random, n, uniform_sink);
+    if n >= 1 {
+        for _ in 0..1 + random.below(3) {
+            let sink = random.below(n);
+            let edge = random.pick(&[REACH + 1, -REACH - 1, i32::MAX, i32::MIN]);
+            match random.below(2) {
+                0 => x[sink] = edge,
+                _ => y[sink] = edge,
+            }
+        }
+    }
+    (x, y)
+}
+
+/// A random good joining order of `n` sinks, empty for none; its pairs are not
+/// always rising.
+pub fn good_joins(random: &mut Random, n: usize) -> Vec<u16> {
+    let mut live: Vec<usize> = (0..n).collect();
+    let mut joins = Vec::new();
+    for join in n..(2 * n).saturating_sub(1) {
+        for _ in 0..2 {
+            let at = random.below(live.len());
+            joins.push(live.swap_remove(at) as u16);
+        }
+        live.push(join);
+    }
+    joins
+}
+
+/// How a joining order is damaged.
+#[derive(Clone, Copy, Debug, PartialEq, Eq)]
+pub enum JoinDamage {
+    /// Whole pairs too many or too few.
+    WrongCount,
+    /// One node number too many or too few.
+    HalfPair,
+    /// A node named again in a later pair.
+    RepeatedNode,
+    /// A node that is not below its join's own number.
+    NodeTooHigh,
+    /// A pair of one node with itself.
+    NodeWithItself,
+}
+
+impl JoinDamage {
+    /// All ways.
+    pub const ALL: [JoinDamage; 5] = [
+        JoinDamage::WrongCount,
+        JoinDamage::HalfPair,
+        JoinDamage::RepeatedNode,
+        JoinDamage::NodeTooHigh,
+        JoinDamage::NodeWithItself,
+    ];
+}
+
+/// A joining order of `n` sinks that is refused with 6. Where the sinks are
+/// too few for the damage asked for, the count is made wrong instead.
+pub fn damaged_joins(random: &mut Random, n: usize, damage: JoinDamage) -> Vec<u16> {
+    let mut joins = good_joins(random, n);
+    let pairs = joins.len() / 2;
+    match damage {
+        JoinDamage::HalfPair => change_count(random, &mut joins, 1),
+        JoinDamage::RepeatedNode if pairs >= 2 => {
+            let later = 2 + random.below(joins.len() - 2);
+            // Nodes of an earlier pair: never the same pair.
+            joins[later] = joins[random.below(later / 2 * 2)];
+        }
+        JoinDamage::NodeTooHigh if pairs >= 1 => {
+            let at = random.below(joins.len());
+            let own = (n + at / 2) as u16;
+            joins[at] = random.pick(&[own, own + 1, own + 600, u16::MAX]);
+        }
+        JoinDamage::NodeWithItself if pairs >= 1 => {
+            let pair = random.below(pairs);
+            joins[2 * pair] = joins[2 * pair + 1];
+        }
+        _ => change_count(random, &mut joins, 2),
+    }
+    joins
+}
+
+/// Cuts off or appends an odd multiple of `unit` numbers.
+fn change_count(random: &mut Random, joins: &mut Vec<u16>, unit: usize) {
+    let amount = unit * random.pick(&[1, 3]);
+    if amount <= joins.len() && random.below(2) == 0 {
+        joins.truncate(joins.len() - amount);
+    } else {
+        for _ in 0..amount {
+            joins.push(random.below(2000) as u16);
+        }
+    }
+}
+
+/// A budget for a search over `n` sinks: near 0, near F(n), between them, or
+/// anything up to the greatest number.
+pub fn budget(random: &mut Random, n: usize) -> u64 {
+    let full = full_steps(n);
+    let near = random.below(4) as u64;
+    match random.below(6) {
+        0 => near,
+        1 => full.saturating_sub(near),
+        2 => full + near,
+        3 => u64::MAX - near,
+        4 => random.next_bits(),
+        _ => random.next_bits() % (full + 1),
+    }
+}
+
+/// One way of damaging a file.
+#[derive(Clone, Debug, PartialEq, Eq)]
+pub enum FileDamage {
+    /// Cut to this length.
+    Truncate(usize),
+    /// Put this byte at this offset.
+    Change(usize, u8),
+    /// Append these bytes.
+    Append(Vec<u8>),
+}
+
+/// The file after the damage; a length or offset beyond it changes nothing.
+pub fn damaged_file(file: &[u8], damage: &FileDamage) -> Vec<u8> {
+    let mut bytes = file.to_vec();
+    match damage {
+        FileDamage::Truncate(length) => bytes.truncate(*length),
+        FileDamage::Change(offset, byte) => {
+            if let Some(changed) = bytes.get_mut(*offset) {
+                *changed = *byte;
+            }
+        }
+        FileDamage::Append(more) => bytes.extend(more),
+    }
+    bytes
+}
+
+/// A random damage for a file of this length that leaves it different,
+/// save that a changed byte may draw its old value.
+pub fn file_damage(random: &mut Random, length: usize) -> FileDamage {
+    match random.below(4) {
+        0 if length > 0 => FileDamage::Truncate(random.below(length)),
+        1 => {
+            let more = 1 + random.below(12);
+            FileDamage::Append((0..more).map(|_| random.next_bits() as u8).collect())
+        }
+        _ => {
+            // Half of the changes fall on the first bytes, where the form
+            // is decided.
+            let reach = random.pick(&[length, length.min(12)]);
+            let small = random.below(6) as u8;
+            let byte = random.next_bits() as u8;
+            FileDamage::Change(random.below(reach.max(1)), random.pick(&[small, byte]))
+        }
+    }
+}
+
+/// Damages that a comparison should all try on a short file: truncation at
+/// every length, one byte changed at every offset, and a byte appended.
+pub fn every_damage(random: &mut Random, file: &[u8]) -> Vec<FileDamage> {
+    let mut damages = vec![FileDamage::Append(vec![random.next_bits() as u8])];
+    for (at, &byte) in file.iter().enumerate() {
+        damages.push(FileDamage::Truncate(at));
+        let flip = 1 + random.below(255) as u8;
+        damages.push(FileDamage::Change(at, byte ^ flip));
+        damages.push(FileDamage::Change(at, byte ^ 1));
+    }
+    damages
+}
+
+#[cfg(test)]
+mod tests {
+    use super::*;
+    use crate::plane::{check_sinks, MOST_SINKS};
+
+    #[test]
+    fn the_first_numbers_are_those_of_splitmix64() {
+        let mut random = Random::new(0);
+        assert_eq!(random.next_bits(), 0xE220_A839_7B1D_CDAF);
+        assert_eq!(random.next_bits(), 0x6E78_9E6A_A1B9_65F4);
+    }
+
+    #[test]
+    fn sinks_are_accepted_or_refused_as_their_kind_says() {
+        let mut random = Random::new(71);
+        for n in (2..40).chain([512]) {
+            for kind in SinkKind::ALL {
+                let (x, y) = sinks(&mut random, kind, n);
+                let number = check_sinks(&x, &y, MOST_SINKS).map_err(|r| r.number());
+                let expected = match kind {
+                    SinkKind::Coinciding => Err(5),
+                    SinkKind::OutOfRange => Err(4),
+                    _ => Ok(()),
+                };
+                assert_eq!(number, expected, "{kind:?} {n}");
+                assert_eq!(x.len(), n);
+            }
+        }
+    }
+
+    #[test]
+    fn damages_change_the_file() {
+        let mut random = Random::new(72);
+        let file = [1, 0, 1, 1, 2, 0, 0];
+        for damage in every_damage(&mut random, &file) {
+            assert_ne!(damaged_file(&file, &damage), file);
+        }
+        for _ in 0..100 {
+            let damage = file_damage(&mut random, file.len());
+            assert!(damaged_file(&file, &damage).len() <= file.len() + 12);
+        }
+    }
+
+    #[test]
+    fn budgets_reach_both_sides_of_the_full_count() {
+        let mut random = Random::new(73);
+        let budgets: Vec<u64> = (0..200).map(|_| budget(&mut random, 5)).collect();
+        let full = full_steps(5);
+        assert!(budgets.contains(&0) && budgets.contains(&full));
+        assert!(budgets.contains(&(full - 1)) && budgets.contains(&u64::MAX));
+    }
+}

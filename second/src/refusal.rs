@@ -1,0 +1,83 @@
+//! The nine refusals, each with its number and its place.
+
+use std::fmt;
+
+/// Why a call was refused. Places count from 0; "none" is its own case and
+/// never stands for place 0.
+#[derive(Clone, Copy, Debug, PartialEq, Eq)]
+pub enum Refusal {
+    /// 1: the lists of x and y differ in length.
+    ListsDiffer,
+    /// 2: there is no sink.
+    NoSink,
+    /// 3: there are more sinks than the call takes.
+    TooManySinks,
+    /// 4: the lowest sink with a coordinate outside its range.
+    OutOfRange(usize),
+    /// 5: the lowest sink that repeats an earlier one.
+    SamePlace(usize),
+    /// 6: the first bad pair, or the smaller of given and wanted pairs.
+    WrongJoins(usize),
+    /// 7: a lent buffer is too short.
+    ShortBuffer,
+    /// 8: the byte offset where a file leaves its form.
+    NotOfTheForm(usize),
+    /// 9: the lowest node whose stored place or wire is wrong; none where a
+    /// count is wrong.
+    NotTheEmbedding(Option<usize>),
+}
+
+impl Refusal {
+    /// The refusal's number, 1 to 9.
+    pub fn number(self) -> u8 {
+        match self {
+            Refusal::ListsDiffer => 1,
+            Refusal::NoSink => 2,
+            Refusal::TooManySinks => 3,
+            Refusal::OutOfRange(_) => 4,
+            Refusal::SamePlace(_) => 5,
+            Refusal::WrongJoins(_) => 6,
+            Refusal::ShortBuffer => 7,
+            Refusal::NotOfTheForm(_) => 8,
+            Refusal::NotTheEmbedding(_) => 9,
+        }
+    }
+
+    /// The place returned with the number, if there is one.
+    pub fn place(self) -> Option<usize> {
+        match self {
+            Refusal::ListsDiffer
+            | Refusal::NoSink
+            | Refusal::TooManySinks
+            | Refusal::ShortBuffer => None,
+            Refusal::OutOfRange(place)
+            | Refusal::SamePlace(place)
+            | Refusal::WrongJoins(place)
+            | Refusal::NotOfTheForm(place) => Some(place),
+            Refusal::NotTheEmbedding(place) => place,
+        }
+    }
+}
+
+impl fmt::Display for Refusal {
+    /// The words of the program's refusal line, without the line feed.
+    fn fmt(&self, out: &mut fmt::Formatter<'_>) -> fmt::Result {
+        match self.place() {
+            None => write!(out, "refused {}", self.number()),
+            Some(place) => write!(out, "refused {} {}", self.number(), place),
+        }
+    }
+}
+
+#[cfg(test)]
+mod tests {
+    use super::*;
+
+    #[test]
+    fn place_zero_is_printed_and_none_is_not() {
+        assert_eq!(Refusal::NotOfTheForm(0).to_string(), "refused 8 0");
+        assert_eq!(Refusal::NoSink.to_string(), "refused 2");
+        assert_eq!(Refusal::NotTheEmbedding(None).to_string(), "refused 9");
+        assert_eq!(Refusal::NotTheEmbedding(Some(0)).to_string(), "refused 9 0");
+    }
+}

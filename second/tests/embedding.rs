@@ -1,0 +1,90 @@
+//! Embedding against a slow rendering of the document's sentences.
+
+mod common;
+
+use common::treed;
+use second::generate::{good_joins, Random};
+
+/// The sinks under every node, by the pairs.
+fn sinks_under(n: usize, joins: &[u16]) -> Vec<Vec<usize>> {
+    let mut sets: Vec<Vec<usize>> = (0..n).map(|sink| vec![sink]).collect();
+    for pair in joins.chunks_exact(2) {
+        let (a, b) = (pair[0] as usize, pair[1] as usize);
+        sets.push([sets[a].clone(), sets[b].clone()].concat());
+    }
+    sets
+}
+
+/// Greatest Manhattan distance of two sinks of the set.
+fn diameter(x: &[i32], y: &[i32], set: &[usize]) -> i32 {
+    let apart = |i: usize, j: usize| (x[i] - x[j]).abs() + (y[i] - y[j]).abs();
+    let pairs = set.iter().flat_map(|&i| set.iter().map(move |&j| (i, j)));
+    pairs.map(|(i, j)| apart(i, j)).max().unwrap()
+}
+
+/// All values of a node's range on the axis with these tilted coordinates.
+fn range(tilted: &[i32], set: &[usize], d: i32) -> Vec<i32> {
+    let greatest = set.iter().map(|&i| tilted[i]).max().unwrap();
+    let least = set.iter().map(|&i| tilted[i]).min().unwrap();
+    (2 * greatest - d..=2 * least + d).collect()
+}
+
+/// One axis of all places: the root's least value, then for each node below
+/// the value nearest to its parent's.
+fn axis(tilted: &[i32], sets: &[Vec<usize>], ds: &[i32], joins: &[u16]) -> Vec<i32> {
+    let n = tilted.len();
+    let mut values = vec![0; sets.len()];
+    for node in (0..sets.len()).rev() {
+        let choices = range(tilted, &sets[node], ds[node]);
+        let named = joins.iter().position(|&name| name as usize == node);
+        values[node] = match named {
+            None => choices[0],
+            Some(at) => {
+                let above = values[n + at / 2];
+                let near = |value: &i32| (value - above).abs();
+                choices.into_iter().min_by_key(near).unwrap()
+            }
+        };
+    }
+    values
+}
+
+fn check(x: &[i32], y: &[i32], joins: &[u16]) {
+    let n = x.len();
+    let sets = sinks_under(n, joins);
+    let ds: Vec<i32> = sets.iter().map(|set| diameter(x, y, set)).collect();
+    let us: Vec<i32> = (0..n).map(|i| x[i] + y[i]).collect();
+    let vs: Vec<i32> = (0..n).map(|i| x[i] - y[i]).collect();
+    let answer = treed(x, y, joins).unwrap();
+    assert_eq!(answer.u, axis(&us, &sets, &ds, joins));
+    assert_eq!(answer.v, axis(&vs, &sets, &ds, joins));
+    for (at, &node) in joins.iter().enumerate() {
+        let wire = ds[n + at / 2] - ds[node as usize];
+        assert_eq!(answer.wires[node as usize], wire as u32);
+    }
+    assert_eq!(answer.wires[2 * n - 2], 0);
+    let total: i32 = ds[n..].iter().sum::<i32>() + ds[2 * n - 2];
+    assert_eq!(answer.total, total as u32);
+}
+
+#[test]
+fn small_trees_follow_the_sentences() {
+    let mut random = Random::new(301);
+    for round in 0..300 {
+        let n = 1 + round % 8;
+        // Eight different columns keep the places apart.
+        let x: Vec<i32> = (0..n as i32).map(|i| i * 5 % 8 - 4).collect();
+        let y: Vec<i32> = (0..n).map(|_| random.between(-12, 12)).collect();
+        let joins = good_joins(&mut random, n);
+        check(&x, &y, &joins);
+        check(&y, &x, &joins);
+    }
+}
+
+#[test]
+fn the_root_takes_the_least_u_then_the_least_v() {
+    let level = treed(&[0, 3], &[0, 2], &[0, 1]).unwrap();
+    assert_eq!((level.u[2], level.v[2]), (5, -3));
+    let steep = treed(&[0, 3], &[0, -2], &[0, 1]).unwrap();
+    assert_eq!((steep.u[2], steep.v[2]), (-3, 5));
+}

@@ -1,0 +1,233 @@
+//! The exact search against slow renderings of the document's sentences.
+
+mod common;
+
+use common::{searched, treed, Answer};
+use second::generate::{budget, sinks, Random, SinkKind};
+use second::least::join_least;
+use second::refusal::Refusal;
+use second::search::full_steps;
+
+type Sinks<'a> = (&'a [i32], &'a [i32]);
+
+fn size(subset: u32) -> u32 {
+    (0..32).filter(|bit| subset >> bit & 1 == 1).count() as u32
+}
+
+/// Greatest Manhattan distance of two sinks of the subset.
+fn diameter(sinks: Sinks, subset: u32) -> u32 {
+    let mut greatest = 0;
+    for i in (0..sinks.0.len()).filter(|i| subset >> i & 1 == 1) {
+        for j in (0..i).filter(|j| subset >> j & 1 == 1) {
+            let apart = (sinks.0[i] - sinks.0[j]).abs() + (sinks.1[i] - sinks.1[j]).abs();
+            greatest = greatest.max(apart as u32);
+        }
+    }
+    greatest
+}
+
+/// The splits of a subset, each named by the part with the lowest sink.
+fn splits(subset: u32) -> Vec<u32> {
+    let lowest = (0..32).find(|bit| subset >> bit & 1 == 1).unwrap();
+    let is_part = |part: &u32| part & !subset == 0 && part >> lowest & 1 == 1;
+    (0..subset).filter(is_part).collect()
+}
+
+/// best by its definition, with nothing remembered.
+fn best(sinks: Sinks, subset: u32) -> u32 {
+    if size(subset) < 2 {
+        return 0;
+    }
+    let sum = |part: u32| best(sinks, part) + best(sinks, subset - part);
+    diameter(sinks, subset) + splits(subset).into_iter().map(sum).min().unwrap()
+}
+
+/// The steps of the whole search in order: subset and part.
+fn all_steps(n: usize) -> Vec<(u32, u32)> {
+    let subsets = (0..1 << n).filter(|&subset| size(subset) >= 2);
+    let steps = |subset| splits(subset).into_iter().map(move |part| (subset, part));
+    subsets.flat_map(steps).collect()
+}
+
+/// The work table after the first `budget` steps, by its sentences.
+fn slow_table(sinks: Sinks, budget: u64) -> Vec<u32> {
+    let n = sinks.0.len();
+    let steps = all_steps(n);
+    let examined = &steps[..steps.len().min(budget as usize)];
+    let entry = |subset: u32| {
+        if size(subset) < 2 {
+            return 0;
+        }
+        let own = examined.iter().filter(|step| step.0 == subset);
+        let sums = own.map(|&(_, part)| best(sinks, part) + best(sinks, subset - part));
+        match sums.min() {
+            Some(least) => diameter(sinks, subset) + least,
+            None => 4_294_967_295,
+        }
+    };
+    (0..1 << n).map(entry).collect()
+}
+
+/// Compares one call with the sentences: table, steps, mark, spare entries.
+fn check_at(sinks: Sinks, budget: u64) {
+    let (n, full) = (sinks.0.len(), full_steps(sinks.0.len()));
+    let mut answer = Answer::with_room(n, 3);
+    answer.search(sinks.0, sinks.1, budget).unwrap();
+    let (table, spare) = answer.table.split_at(1 << n);
+    assert_eq!(table, slow_table(sinks, budget), "budget {budget}");
+    assert_eq!(spare, [77; 3]);
+    assert_eq!(answer.steps, budget.min(full));
+    assert_eq!(answer.proven, budget >= full);
+    assert_eq!(answer.pairs[2 * n - 2..], [77; 3]);
+    assert_eq!(answer.u[2 * n - 1..], [77; 3]);
+    assert_eq!(answer.v[2 * n - 1..], [77; 3]);
+    assert_eq!(answer.wires[2 * n - 1..], [77; 3]);
+    let mut least = vec![0; 2 * n - 2];
+    join_least(sinks.0, sinks.1, &mut least).unwrap();
+    if !answer.proven {
+        assert_eq!(answer.pairs[..2 * n - 2], least);
+    }
+    let again = treed(sinks.0, sinks.1, &answer.pairs[..2 * n - 2]).unwrap();
+    assert_eq!(answer.total, again.total);
+    assert_eq!(answer.u[..2 * n - 1], again.u);
+    assert_eq!(answer.v[..2 * n - 1], again.v);
+    assert_eq!(answer.wires[..2 * n - 1], again.wires);
+}
+
+#[test]
+fn the_table_at_every_budget_up_to_four_sinks() {
+    let mut random = Random::new(101);
+    for n in 1..=4 {
+        assert_eq!(all_steps(n).len() as u64, full_steps(n));
+        for kind in SinkKind::GOOD.into_iter().cycle().take(8) {
+            let (x, y) = sinks(&mut random, kind, n);
+            for budget in (0..=full_steps(n) + 2).chain([u64::MAX - 1, u64::MAX]) {
+                check_at((&x, &y), budget);
+            }
+        }
+    }
+}
+
+#[test]
+fn the_table_at_some_budgets_of_five_and_six_sinks() {
+    let mut random = Random::new(102);
+    for round in 0..12 {
+        let n = 5 + round % 2;
+        let kind = random.pick(&SinkKind::GOOD);
+        let (x, y) = sinks(&mut random, kind, n);
+        check_at((&x, &y), budget(&mut random, n));
+    }
+}
+
+/// The proven joining order by its sentences: the first least split, the
+/// part with the lowest sink numbered first.
+fn slow_joins(sinks: Sinks, subset: u32, joins: &mut Vec<u16>) -> u16 {
+    if size(subset) == 1 {
+        return subset.trailing_zeros() as u16;
+    }
+    let sum = |part: &u32| best(sinks, *part) + best(sinks, subset - *part);
+    let part = splits(subset).into_iter().min_by_key(sum).unwrap();
+    let first = slow_joins(sinks, part, joins);
+    let second = slow_joins(sinks, subset - part, joins);
+    joins.extend([first, second]);
+    (sinks.0.len() + joins.len() / 2 - 1) as u16
+}
+
+#[test]
+fn proven_trees_are_the_first_least_splits() {
+    let mut random = Random::new(103);
+    for round in 0..32 {
+        let kind = SinkKind::GOOD[round % 4];
+        let (x, y) = sinks(&mut random, kind, 1 + round % 5);
+        let answer = searched(&x, &y, u64::MAX).unwrap();
+        let mut joins = Vec::new();
+        slow_joins((&x, &y), (1 << x.len()) - 1, &mut joins);
+        assert_eq!(answer.pairs, joins);
+    }
+}
+
+/// Calls `visit` with every joining order that goes on from the given one.
+fn every_order(n: usize, live: &[u16], joins: &mut Vec<u16>, visit: &mut dyn FnMut(&[u16])) {
+    if live.len() == 1 {
+        visit(joins);
+        return;
+    }
+    let join = (n + joins.len() / 2) as u16;
+    for (at, &a) in live.iter().enumerate() {
+        for &b in &live[at + 1..] {
+            let mut left: Vec<u16> = live.to_vec();
+            left.retain(|&node| node != a && node != b);
+            left.push(join);
+            joins.extend([a, b]);
+            every_order(n, &left, joins, visit);
+            joins.truncate(joins.len() - 2);
+        }
+    }
+}
+
+#[test]
+fn no_other_order_beats_the_proven_tree() {
+    let mut random = Random::new(104);
+    for round in 0..40 {
+        let n = 1 + round % 5;
+        let (x, y) = sinks(&mut random, SinkKind::GOOD[round / 5 % 4], n);
+        let proven = searched(&x, &y, full_steps(n)).unwrap();
+        let mut least = u32::MAX;
+        let live: Vec<u16> = (0..n as u16).collect();
+        every_order(n, &live, &mut Vec::new(), &mut |joins| {
+            least = least.min(treed(&x, &y, joins).unwrap().total);
+        });
+        assert_eq!(proven.total, least);
+    }
+}
+
+#[test]
+fn search_refusals_leave_every_buffer() {
+    let (x, y) = ([0, 4, 7], [0, 0, 1]);
+    let cases: [(&[i32], &[i32], Refusal); 5] = [
+        (&x, &y[..2], Refusal::ListsDiffer),
+        (&[], &[], Refusal::NoSink),
+        (&[8; 13], &[8; 13], Refusal::TooManySinks),
+        (&[0, 0, -1_000_001], &[0, 0, 1], Refusal::OutOfRange(2)),
+        (&[0, 4, 0], &[0, 0, 0], Refusal::SamePlace(2)),
+    ];
+    for (x, y, refusal) in cases {
+        let mut answer = Answer::with_room(0, 0);
+        let before = answer.clone();
+        assert_eq!(answer.search(x, y, 9), Err(refusal));
+        assert_eq!(answer, before);
+    }
+}
+
+#[test]
+fn a_short_buffer_leaves_the_others() {
+    let (x, y) = ([0, 4, 7], [0, 0, 1]);
+    for short in 0..5 {
+        let mut answer = Answer::with_room(3, 0);
+        match short {
+            0 => drop(answer.table.pop()),
+            1 => drop(answer.pairs.pop()),
+            2 => drop(answer.u.pop()),
+            3 => drop(answer.v.pop()),
+            _ => drop(answer.wires.pop()),
+        }
+        let before = answer.clone();
+        assert_eq!(answer.search(&x, &y, 9), Err(Refusal::ShortBuffer));
+        assert_eq!(answer, before);
+    }
+}
+
+#[test]
+fn twelve_sinks_at_budgets_around_the_full_count() {
+    let (x, y) = sinks(&mut Random::new(105), SinkKind::Uniform, 12);
+    let full = full_steps(12);
+    let below = searched(&x, &y, full - 1).unwrap();
+    assert_eq!((below.proven, below.steps), (false, full - 1));
+    let at = searched(&x, &y, full).unwrap();
+    assert_eq!((at.proven, at.steps), (true, full));
+    assert!(at.total <= below.total);
+    // All but the last subset are finished one step before the end.
+    assert_eq!(at.table[..4095], below.table[..4095]);
+    assert_eq!(searched(&x, &y, u64::MAX).unwrap().steps, full);
+    assert_eq!(searched(&x, &y, 0).unwrap().table[3], u32::MAX);
+}
