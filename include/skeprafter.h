@@ -201,10 +201,12 @@ void skeprafter_read_tree(const uint8_t *file, size_t nf, int32_t *x, size_t nx,
 /*
  * What the tree program prints for the given input (the bytes of a sink
  * file), a refusal's line included. Returns the length of the text in bytes.
- * Where out is long enough the text stands at its front, without a zero byte
- * after it; else out is untouched. 65,536 bytes are always enough.
+ * The text stands at the front of out, without a zero byte after it; every
+ * text fits.
  */
-uint64_t skeprafter_tree_lines(const uint8_t *input, size_t ni, uint8_t *out, size_t no);
+#define SKEPRAFTER_LINES 49152
+size_t skeprafter_tree_lines(const uint8_t *input, size_t ni,
+                             uint8_t out[SKEPRAFTER_LINES]);
 
 #ifdef __cplusplus
 }

@@ -141,7 +141,7 @@ mod c {
             nj: usize,
             said: *mut u64,
         );
-        pub fn skeprafter_tree_lines(input: *const u8, ni: usize, out: *mut u8, no: usize) -> u64;
+        pub fn skeprafter_tree_lines(input: *const u8, ni: usize, out: *mut u8) -> usize;
     }
 }
 
@@ -369,11 +369,14 @@ pub fn read(kind: Kind, file: &[u8], x: &mut [i32], y: &mut [i32], joins: &mut [
     heard(said)
 }
 
-/// The length of the tree program's text, which fills `out` from the front
-/// where it is long enough.
-pub fn tree_lines(input: &[u8], out: &mut [u8]) -> u64 {
-    // SAFETY: pointers and lengths are those of live slices.
-    unsafe { c::skeprafter_tree_lines(input.as_ptr(), input.len(), out.as_mut_ptr(), out.len()) }
+/// The room that every text of the tree program fits.
+pub const LINES: usize = 49_152;
+
+/// The length of the tree program's text, which fills `out` from the front.
+pub fn tree_lines(input: &[u8], out: &mut [u8; LINES]) -> usize {
+    // SAFETY: the pointer and length are those of a live slice, and `out` is
+    // a live array of the length that the function writes within.
+    unsafe { c::skeprafter_tree_lines(input.as_ptr(), input.len(), out.as_mut_ptr()) }
 }
 
 #[cfg(test)]

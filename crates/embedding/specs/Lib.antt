@@ -1,9 +1,8 @@
--- Embedding a joining order. For a reader: Joins, Nodes, Embedding, Permitted, Described, Table. For the code alone: Sound, Arrays.
+-- Embedding a joining order. For a reader: Joins, Nodes, Embedding, Permitted, Described. For the code alone: Sound, Arrays.
 pub mod Joins
 pub mod Nodes
 pub mod Embedding
 pub mod Permitted
 pub mod Described
-pub mod Table
 pub mod Sound
 pub mod Arrays

@@ -1,22 +1,13 @@
 // The nodes of a sound joining order, bottom-up: their boxes, diameters and parents.
-ghost use mathlib.Core.List.{[], _∷_};
 ghost use Prim.Native.Nat.{_-_, _*_, _≤_, _<_};
 ghost use lib.ListN.{length};
-ghost use Rattle.plane.specs.Sinks.{sinksAt, Ranged};
-ghost use Rattle.plane.specs.Covers.{Covers};
+ghost use Rattle.plane.specs.Sinks.{sinksAt};
 ghost use Rattle.embedding.specs.Sound.{Ordered, Sound};
 ghost use Rattle.embedding.specs.Arrays.{Boxes, Diameters, Parents};
 use crate::joins;
+use plane::bounds;
 use plane::boxes;
 use plane::boxes::Box;
-
-// The box of sink k.
-fn sink_at(xs: &[i32], ys: &[i32], k: usize) -> Box
-    requires { ⌜ Ranged (now xs) (now ys) × (k < length (now xs)) ⌝ }
-    ensures { λ r. ⌜ Covers (sinksAt (now (xs .entry)) (now (ys .entry))) (k ∷ []) r ⌝ }
-{
-    boxes::sink_box(xs[k], ys[k])
-}
 
 // The box of each node: of a sink, or of the two nodes that its pair names.
 pub fn node_boxes(xs: &[i32], ys: &[i32], js: &[u16]) -> [Box; 1023]
@@ -29,7 +20,7 @@ pub fn node_boxes(xs: &[i32], ys: &[i32], js: &[u16]) -> [Box; 1023]
     let mut k = 0;
     while k < all {
         if k < n {
-            bs[k] = sink_at(xs, ys, k);
+            bs[k] = bounds::sink_at(xs, ys, k);
         } else {
             let p = 2 * (k - n);
             let a = joins::entry(js, p);

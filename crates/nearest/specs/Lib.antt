@@ -1,8 +1,7 @@
--- Joining by least diameter. For a reader: Nearest, Rule, Calls, Examples. For the code alone: Boxes, Live, Rounds, Ready.
+-- Joining by least diameter. For a reader: Nearest, Rule, Calls. For the code alone: Boxes, Live, Rounds, Ready.
 pub mod Nearest
 pub mod Rule
 pub mod Calls
-pub mod Examples
 pub mod Boxes
 pub mod Live
 pub mod Rounds

@@ -1,13 +1,12 @@
 // The boxes of all nodes in one list of numbers, so that it can be lent: node k's least u, greatest u, least v and greatest v stand at 4k to 4k + 3.
 ghost use mathlib.Core.Path.{_≡_};
-ghost use mathlib.Core.List.{[], _∷_};
 ghost use Prim.Native.Nat.{_*_, _≤_, _<_};
 ghost use lib.ListN.{length};
-ghost use Rattle.plane.specs.Sinks.{sinksAt, Ranged};
-ghost use Rattle.plane.specs.Covers.{Covers};
+ghost use Rattle.plane.specs.Sinks.{Ranged};
 ghost use Rattle.plane.specs.Boxes.{hullOf};
 ghost use Rattle.nearest.specs.Boxes.{boxAt, reach, Boxed, Puts, Sinked};
 use crate::pair::Pair;
+use plane::bounds;
 use plane::boxes;
 use plane::boxes::Box;
 use plane::measure;
@@ -62,14 +61,6 @@ pub fn put_hull(bs: &mut [u32], m: usize, p: Pair)
     put_box(bs, m, b);
 }
 
-// The box of sink i.
-fn sink_at(xs: &[i32], ys: &[i32], i: usize) -> Box
-    requires { ⌜ Ranged (now xs) (now ys) × (i < length (now xs)) ⌝ }
-    ensures { λ r. ⌜ Covers (sinksAt (now (xs .entry)) (now (ys .entry))) (i ∷ []) r ⌝ }
-{
-    boxes::sink_box(xs[i], ys[i])
-}
-
 // The boxes of all sinks.
 pub fn put_sinks(xs: &[i32], ys: &[i32], bs: &mut [u32])
     requires { ⌜ Ranged (now xs) (now ys) × (4 * length (now xs) ≤ length (now bs)) ⌝ }
@@ -77,7 +68,7 @@ pub fn put_sinks(xs: &[i32], ys: &[i32], bs: &mut [u32])
 {
     let mut i = 0;
     while i < xs.len() {
-        put_box(bs, i, sink_at(xs, ys, i));
+        put_box(bs, i, bounds::sink_at(xs, ys, i));
         i += 1;
     }
 }

@@ -53,15 +53,15 @@ pub fn diameter(b: Box) -> u32
     boxes::diameter(b)
 }
 
-// The box of sink i.
-fn sink_at(xs: &[i32], ys: &[i32], i: usize) -> Box
+// The box of sink i, of sinks that were checked.
+pub fn sink_at(xs: &[i32], ys: &[i32], i: usize) -> Box
     requires { ⌜ Ranged (now xs) (now ys) × (i < length (now xs)) ⌝ }
     ensures { λ r. ⌜ Covers (sinksAt (now (xs .entry)) (now (ys .entry))) (i ∷ []) r ⌝ }
 {
     boxes::sink_box(xs[i], ys[i])
 }
 
-// The box of sinks that were checked.
+// The box of all of them.
 fn box_sound(xs: &[i32], ys: &[i32]) -> Box
     requires { ⌜ Ranged (now xs) (now ys) × (0 < length (now xs)) ⌝ }
     ensures { λ r. ⌜ Covers (sinksAt (now (xs .entry)) (now (ys .entry))) (upTo (length (now (xs .entry)))) r ⌝ }

@@ -1,6 +1,6 @@
 // The exact search with a budget.
 ghost use mathlib.Core.Path.{_≡_};
-ghost use Prim.Native.Nat.{_<_, _≤_, _*_, _-_};
+ghost use Prim.Native.Nat.{_<_, _*_, _-_};
 ghost use Rattle.lists.specs.Grow.{front};
 ghost use Rattle.plane.specs.Sinks.{sinksAt};
 ghost use Rattle.search.specs.Prepared.{Prepared, Provided, Tabled, Joins, Finds};

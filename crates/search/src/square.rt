@@ -1,31 +1,22 @@
 // Distances between sinks, in a square of twelve rows by twelve, and the diameter of a subset from them.
 ghost use mathlib.Core.Path.{_≡_};
-ghost use mathlib.Core.List.{[], _∷_};
 ghost use Prim.Native.Nat.{_<_, _≤_, _^_};
 ghost use lib.ListN.{length};
 ghost use Rattle.zero_skew.specs.Plane.{dist};
 ghost use Rattle.plane.specs.Sinks.{sinksAt, Ranged};
-ghost use Rattle.plane.specs.Covers.{Covers};
 ghost use Rattle.search.specs.Subsets.{sinksIn};
 ghost use Rattle.search.specs.Square.{Square, RowOf, farthestOf, widest};
 use crate::subset;
+use plane::bounds;
 use plane::boxes;
 use plane::boxes::Box;
-
-// The box of sink i.
-fn sink_at(xs: &[i32], ys: &[i32], i: usize) -> Box
-    requires { ⌜ Ranged (now xs) (now ys) × (i < length (now xs)) ⌝ }
-    ensures { λ r. ⌜ Covers (sinksAt (now (xs .entry)) (now (ys .entry))) (i ∷ []) r ⌝ }
-{
-    boxes::sink_box(xs[i], ys[i])
-}
 
 // The distance of sinks i and j: the larger of the two widths of their box.
 fn distance(xs: &[i32], ys: &[i32], i: usize, j: usize) -> u32
     requires { ⌜ Ranged (now xs) (now ys) × (i < length (now xs)) × (j < length (now xs)) ⌝ }
     ensures { λ r. ⌜ r ≡ dist (sinksAt (now (xs .entry)) (now (ys .entry)) .at i) (sinksAt (now (xs .entry)) (now (ys .entry)) .at j) ⌝ }
 {
-    boxes::diameter(boxes::hull(sink_at(xs, ys, i), sink_at(xs, ys, j)))
+    boxes::diameter(boxes::hull(bounds::sink_at(xs, ys, i), bounds::sink_at(xs, ys, j)))
 }
 
 // The distances of sink i to all sinks.

@@ -1,6 +1,15 @@
 // The library's face: all that a caller uses, and nothing else. No function here has a condition on its caller.
 pub use embedding::embed::Embedded;
 pub use embedding::embed::embed;
+pub use house::answer::Reading;
+pub use house::answer::Written;
+pub use house::joined_file::read_joined;
+pub use house::joined_file::write_joined;
+pub use house::sink_file::read_sinks;
+pub use house::sink_file::write_sinks;
+pub use house::tree_file::read_tree;
+pub use house::tree_file::write_tree;
+pub use lines::program::tree_lines;
 pub use nearest::order::Joined;
 pub use nearest::order::join_nearest;
 pub use nearest::tree::embed_nearest;

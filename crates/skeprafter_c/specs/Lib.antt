@@ -3,3 +3,4 @@ pub mod Words
 pub mod Kept
 pub mod Trees
 pub mod Searched
+pub mod Files

@@ -15,6 +15,10 @@ use Rattle.nearest.specs.declared.order.Joined.{Joined}
 use Rattle.nearest.specs.declared.order.Joined.the-variants.{Order, NoOrder}
 use Rattle.search.specs.declared.search.Searched.{Searched}
 use Rattle.search.specs.declared.search.Searched.the-variants.{Tree, NoTree}
+use Rattle.house.specs.declared.answer.Written.{Written}
+use Rattle.house.specs.declared.answer.Written.the-variants.{Bytes, NotWritten}
+use Rattle.house.specs.declared.answer.Reading.{Reading}
+use Rattle.house.specs.declared.answer.Reading.the-variants.{Sinks, NotRead}
 
 abbrev pub placedWords : ℕ → Place → List ℕ
 placedWords n None = n ∷ 0 ∷ 0 ∷ 0 ∷ 0 ∷ 0 ∷ []
@@ -49,3 +53,11 @@ markWord false = 0
 abbrev pub searchWords : Searched → List ℕ
 searchWords (Tree f) = 0 ∷ 0 ∷ 0 ∷ f .total ∷ f .steps ∷ markWord (f .proven) ∷ []
 searchWords (NoTree r) = refusalWords r
+
+abbrev pub writtenWords : Written → List ℕ
+writtenWords (Bytes n) = 0 ∷ 0 ∷ 0 ∷ n ∷ 0 ∷ 0 ∷ []
+writtenWords (NotWritten r) = refusalWords r
+
+abbrev pub readWords : Reading → List ℕ
+readWords (Sinks n) = 0 ∷ 0 ∷ 0 ∷ n ∷ 0 ∷ 0 ∷ []
+readWords (NotRead r) = refusalWords r

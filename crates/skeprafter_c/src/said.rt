@@ -1,12 +1,14 @@
 // What a call says, as six numbers: the refusal's number (0: accepted), whether it has a place, the place, a value, the steps, and whether proven.
 ghost use mathlib.Core.Path.{_≡_};
-ghost use Rattle.skeprafter_c.specs.Words.{refusalWords, checkedWords, orderWords, treeWords, markWord, searchWords};
+ghost use Rattle.skeprafter_c.specs.Words.{refusalWords, checkedWords, orderWords, treeWords, markWord, searchWords, writtenWords, readWords};
 use skeprafter::Checked;
 use skeprafter::Embedded;
 use skeprafter::Joined;
 use skeprafter::Place;
+use skeprafter::Reading;
 use skeprafter::Refusal;
 use skeprafter::Searched;
+use skeprafter::Written;
 
 fn wide(n: u32) -> u64
     ensures { λ r. ⌜ r ≡ n ⌝ }
@@ -70,5 +72,23 @@ pub fn of_searched(s: Searched) -> [u64; 6]
     match s {
         Searched::Tree(f) => [0, 0, 0, wide(f.total), f.steps, mark(f.proven)],
         Searched::NoTree(r) => of_refusal(r),
+    }
+}
+
+pub fn of_written(w: Written) -> [u64; 6]
+    ensures { λ r. ⌜ r ≡ writtenWords w ⌝ }
+{
+    match w {
+        Written::Bytes(n) => [0, 0, 0, number(n), 0, 0],
+        Written::NotWritten(r) => of_refusal(r),
+    }
+}
+
+pub fn of_read(w: Reading) -> [u64; 6]
+    ensures { λ r. ⌜ r ≡ readWords w ⌝ }
+{
+    match w {
+        Reading::Sinks(n) => [0, 0, 0, number(n), 0, 0],
+        Reading::NotRead(r) => of_refusal(r),
     }
 }

@@ -22,9 +22,6 @@ pub const CASES: &[Case] = &[
     ("lines of odd inputs", lines_odd),
 ];
 
-/// The room that is always enough.
-const ALWAYS_ENOUGH: usize = 65_536;
-
 /// The call that makes the text.
 struct Lines {
     input: Vec<u8>,
@@ -32,23 +29,26 @@ struct Lines {
 }
 
 impl Lines {
-    fn new(input: &[u8], bytes: usize) -> Lines {
+    fn new(input: &[u8]) -> Lines {
         Lines {
             input: input.to_vec(),
             room: Room {
-                bytes,
+                bytes: proved::LINES,
                 ..Room::default()
             },
         }
     }
 
-    /// The text goes to the front where it fits, and nowhere else.
+    /// The text goes to the front, and nowhere else.
     fn ask_reference(&self, lent: Parts<'_>) -> Answer {
         let text = tree_lines(&self.input);
-        if let Some(front) = lent.bytes.get_mut(..text.len()) {
-            front.copy_from_slice(text.as_bytes());
-        }
+        lent.bytes[..text.len()].copy_from_slice(text.as_bytes());
         told(Ok(text.len() as u64))
+    }
+
+    fn ask_proved(&self, lent: Parts<'_>) -> Answer {
+        let out = lent.bytes.try_into().expect("the room of an array");
+        told(Ok(proved::tree_lines(&self.input, out) as u64))
     }
 }
 
@@ -56,8 +56,7 @@ impl Task for Lines {
     type Outcome = Outcome;
 
     fn describe(&self) -> String {
-        let (room, bytes) = (self.room.bytes, hex(&self.input));
-        format!("tree_lines, room for {room} bytes, input {bytes}")
+        format!("tree_lines, input {}", hex(&self.input))
     }
 
     fn reference(&self, salt: u64) -> Outcome {
@@ -65,9 +64,7 @@ impl Task for Lines {
     }
 
     fn proved(&self, salt: u64) -> Outcome {
-        Outcome::of(self.room, salt, |lent| {
-            told(Ok(proved::tree_lines(&self.input, lent.bytes)))
-        })
+        Outcome::of(self.room, salt, |lent| self.ask_proved(lent))
     }
 
     fn tell(reference: &Outcome, proved: &Outcome) -> String {
@@ -129,21 +126,12 @@ impl Task for Program {
     }
 }
 
-/// Checks the program, where there is one, and the call with room enough.
+/// Checks the program, where there is one, and the call.
 fn check(session: &mut Session, input: &[u8]) {
-    session.check(&Lines::new(input, ALWAYS_ENOUGH));
+    session.check(&Lines::new(input));
     if let Some(path) = session.program().map(PathBuf::from) {
         let input = input.to_vec();
         session.check(&Program { path, input });
-    }
-}
-
-/// Checks the call also with room that is exact, too short and a bit longer.
-fn check_rooms(session: &mut Session, input: &[u8]) {
-    check(session, input);
-    let length = tree_lines(input).len();
-    for room in [length, length - 1, length + 1, length / 2, 0] {
-        session.check(&Lines::new(input, room));
     }
 }
 
@@ -155,13 +143,13 @@ fn sink_file(lists: &draw::Lists) -> Vec<u8> {
 fn lines_good(session: &mut Session, random: &mut Random) {
     let n = session.small();
     for lists in draw::every_good(random, n) {
-        check_rooms(session, &sink_file(&lists));
+        check(session, &sink_file(&lists));
     }
 }
 
 fn lines_large(session: &mut Session, random: &mut Random) {
     let n = draw::large(random, session.round());
-    check_rooms(session, &sink_file(&draw::good(random, n)));
+    check(session, &sink_file(&draw::good(random, n)));
 }
 
 fn lines_damaged(session: &mut Session, random: &mut Random) {
@@ -170,18 +158,18 @@ fn lines_damaged(session: &mut Session, random: &mut Random) {
     assert_eq!(write_sinks(&x, &y, &mut file), Ok(file.len()));
     for damage in every_damage(random, &file) {
         let input = damaged_file(&file, &damage);
-        session.check(&Lines::new(&input, ALWAYS_ENOUGH));
+        session.check(&Lines::new(&input));
     }
     for _ in 0..3 {
         let damage = file_damage(random, file.len());
-        check_rooms(session, &damaged_file(&file, &damage));
+        check(session, &damaged_file(&file, &damage));
     }
 }
 
 fn lines_bad(session: &mut Session, random: &mut Random) {
     let n = session.small();
     for lists in draw::bad(random, n) {
-        check_rooms(session, &sink_file(&lists));
+        check(session, &sink_file(&lists));
     }
     let (x, y) = draw::good(random, n);
     let joins = good_joins(random, n);
@@ -196,14 +184,14 @@ fn lines_odd(session: &mut Session, random: &mut Random) {
         return;
     }
     for length in [0, MOST_INPUT - 1, MOST_INPUT, MOST_INPUT + 1, 40_000] {
-        check_rooms(session, &vec![1; length]);
+        check(session, &vec![1; length]);
         // A good sink file with bytes after it.
         let mut file = sink_file(&draw::good(random, 3));
         file.resize(length.max(file.len()), 0);
-        check_rooms(session, &file);
+        check(session, &file);
     }
     for n in [0, 12, 13, 512, 513, 4000, 4096] {
         let line = ((0..n).collect(), vec![0; n as usize]);
-        check_rooms(session, &sink_file(&line));
+        check(session, &sink_file(&line));
     }
 }

@@ -1,0 +1,77 @@
+-- An example: a call, what it says, and what it writes.
+use mathlib.Core.List.{List, []}
+use Prim.Native.Nat.{ℕ}
+use lib.IntN.{ℤ}
+use lib.ListN.{length}
+use Rattle.plane.specs.Sinks.{sinksAt, checkSinks}
+use Rattle.plane.specs.declared.refusal.Checked.{Checked}
+use Rattle.embedding.specs.Embedding.{answer, written, placesU, placesV, wires}
+use Rattle.embedding.specs.declared.embed.Embedded.{Embedded}
+use Rattle.nearest.specs.Calls.{orderAt, checkNearest, orderAfter, ifOrder}
+use Rattle.nearest.specs.declared.order.Joined.{Joined}
+use Rattle.search.specs.Best.{stepCount}
+use Rattle.search.specs.Rooms.{checkSearch}
+use Rattle.search.specs.Searching.{tableOf, joinsFound, found, foundAfter, ifTree}
+use Rattle.search.specs.declared.search.Searched.{Searched}
+
+-- a call with the sinks' x and y; its buffers have room for whatever four sinks fill, or as much as is said
+pub data Call : Type 0 where
+  embed : (xs ys : List ℤ) (js : List ℕ) (room : ℕ) → Call
+  join : (xs ys : List ℤ) (room : ℕ) → Call
+  search : (xs ys : List ℤ) (budget : ℕ) → Call
+  check : (limit : ℕ) (xs ys : List ℤ) → Call
+  steps : (n : ℕ) → Call
+
+pub data Said : Type 0 where
+  embedded : Embedded → Said
+  joined : Joined → Said
+  searched : Searched → Said
+  checked : Checked → Said
+  counted : ℕ → Said
+
+-- what it says, then the work table, the pairs, U, V and the wires that it writes
+pub record Outcome : Type 0 where
+  pub said : Said
+  pub table : List ℕ
+  pub js : List ℕ
+  pub us : List ℤ
+  pub vs : List ℤ
+  pub ws : List ℕ
+
+abbrev pub searchSays : List ℤ → List ℤ → ℕ → Searched
+searchSays xs ys budget = foundAfter (checkSearch xs ys 16 6 7 7 7) (found (sinksAt xs ys) budget)
+
+abbrev pub says : Said → Outcome
+says a = record { said = a; table = []; js = []; us = []; vs = []; ws = [] }
+
+-- what the definitions say of a call
+unfoldable pub outcome : Call → Outcome
+outcome (embed xs ys js room) =
+    record {
+      said = embedded (answer xs ys js room room room);
+      table = [];
+      js = [];
+      us = written (answer xs ys js room room room) (placesU (sinksAt xs ys) js);
+      vs = written (answer xs ys js room room room) (placesV (sinksAt xs ys) js);
+      ws = written (answer xs ys js room room room) (wires (sinksAt xs ys) js);
+    }
+outcome (join xs ys room) =
+    record {
+      said = joined (orderAfter (checkNearest xs ys room));
+      table = [];
+      js = ifOrder (orderAfter (checkNearest xs ys room)) (orderAt xs ys);
+      us = [];
+      vs = [];
+      ws = [];
+    }
+outcome (search xs ys budget) =
+    record {
+      said = searched (searchSays xs ys budget);
+      table = ifTree (searchSays xs ys budget) (tableOf (sinksAt xs ys) budget);
+      js = ifTree (searchSays xs ys budget) (joinsFound (sinksAt xs ys) budget);
+      us = ifTree (searchSays xs ys budget) (placesU (sinksAt xs ys) (joinsFound (sinksAt xs ys) budget));
+      vs = ifTree (searchSays xs ys budget) (placesV (sinksAt xs ys) (joinsFound (sinksAt xs ys) budget));
+      ws = ifTree (searchSays xs ys budget) (wires (sinksAt xs ys) (joinsFound (sinksAt xs ys) budget));
+    }
+outcome (check limit xs ys) = says (checked (checkSinks limit xs ys))
+outcome (steps n) = says (counted (stepCount n))

@@ -1,0 +1,3 @@
+-- The table of checked examples.
+pub mod Example
+pub mod Table

@@ -1,0 +1,204 @@
+-- Document 01, "Table of checked examples": P1 to P12 as one table under one statement. Further rows show the ties of joining by least diameter, and refusals 1, 5, 6 and 7.
+use mathlib.Core.Path.{_≡_, refl}
+use mathlib.Core.Bool.{true, false}
+use mathlib.Core.List.{List, [], _∷_, map}
+use lib.IntN.{pos, negsuc}
+use lib.Count.{ones, onesIn, trailingZeros}
+use Rattle.zero_skew.specs.Box.{greatest, least, diameter}
+use Rattle.zero_skew.specs.Order.{sinksOf}
+use Rattle.plane.specs.Sinks.{checkSinks}
+use Rattle.plane.specs.declared.refusal.Refusal.the-variants.{Lists, NoSink, TooMany, Outside, Repeated, Joins, Room}
+use Rattle.plane.specs.declared.refusal.Checked.the-variants.{Fine, Refused}
+use Rattle.embedding.specs.Joins.{checkJoins}
+use Rattle.embedding.specs.Nodes.{climb, node, parent}
+use Rattle.embedding.specs.Embedding.{checkOrder, answer}
+use Rattle.embedding.specs.declared.embed.Embedded.the-variants.{Tree, NoTree}
+use Rattle.nearest.specs.Nearest as nearest
+use Rattle.nearest.specs.Calls.{checkNearest}
+use Rattle.nearest.specs.declared.order.Joined.the-variants.{Order}
+use Rattle.search.specs.Subsets.{rising, keep, sinksIn, diam, isPart, splits}
+use Rattle.search.specs.Table.{stepsOf, steps, blanks, tableAfter}
+use Rattle.search.specs.Kept.{firstOr, keptPart, keptIn, joinCount, nodeIn, pairsOf}
+use Rattle.search.specs.Rooms.{checkRooms, checkSearch}
+use Rattle.search.specs.Searching.{joinsFound, found as foundBy}
+use Rattle.search.specs.declared.search.Searched.the-variants as found
+use Rattle.examples.specs.Example as example
+use Rattle.examples.specs.Example.{Call, embed, join, search, check, Outcome, embedded, joined, searched, checked, counted, outcome}
+
+pub record Row : Type 0 where
+  pub call : Call
+  pub gives : Outcome
+
+unfoldable pub table : List Row
+table =
+    -- P1: "no sinks: 2"
+    record {
+      call = embed [] [] [] 7;
+      gives = record { said = embedded (NoTree NoSink); table = []; js = []; us = []; vs = []; ws = [] };
+    }
+    -- and for the search
+    ∷ record {
+      call = search [] [] 0;
+      gives = record { said = searched (found.NoTree NoSink); table = []; js = []; us = []; vs = []; ws = [] };
+    }
+    -- P2: "one sink at (3,-5): place U -4, V 16, total 0, proven at budget 0"
+    ∷ record {
+      call = search (pos 3 ∷ []) (negsuc 4 ∷ []) 0;
+      gives = record { said = searched (found.Tree (record { total = 0; steps = 0; proven = true })); table = 0 ∷ 0 ∷ []; js = []; us = negsuc 3 ∷ []; vs = pos 16 ∷ []; ws = 0 ∷ [] };
+    }
+    -- the same sink, embedded
+    ∷ record {
+      call = embed (pos 3 ∷ []) (negsuc 4 ∷ []) [] 7;
+      gives = record { said = embedded (Tree 0); table = []; js = []; us = negsuc 3 ∷ []; vs = pos 16 ∷ []; ws = 0 ∷ [] };
+    }
+    -- P3: "(0,0) (4,0): root 4, 4; wires 4, 4; total 8"
+    ∷ record {
+      call = embed (pos 0 ∷ pos 4 ∷ []) (pos 0 ∷ pos 0 ∷ []) (0 ∷ 1 ∷ []) 7;
+      gives = record { said = embedded (Tree 8); table = []; js = []; us = pos 0 ∷ pos 8 ∷ pos 4 ∷ []; vs = pos 0 ∷ pos 8 ∷ pos 4 ∷ []; ws = 4 ∷ 4 ∷ 0 ∷ [] };
+    }
+    -- P4: "(0,0) (3,2): d 5, root U 5, V -3 (plane 0.5, 2), total 10"
+    ∷ record {
+      call = embed (pos 0 ∷ pos 3 ∷ []) (pos 0 ∷ pos 2 ∷ []) (0 ∷ 1 ∷ []) 7;
+      gives = record { said = embedded (Tree 10); table = []; js = []; us = pos 0 ∷ pos 10 ∷ pos 5 ∷ []; vs = pos 0 ∷ pos 2 ∷ negsuc 2 ∷ []; ws = 5 ∷ 5 ∷ 0 ∷ [] };
+    }
+    -- P5: "(0,0) (2,0) (10,0), pairs (0,1) (3,2): wires 2, 2, 10, 8; total 22"
+    ∷ record {
+      call = embed (pos 0 ∷ pos 2 ∷ pos 10 ∷ []) (pos 0 ∷ pos 0 ∷ pos 0 ∷ []) (0 ∷ 1 ∷ 3 ∷ 2 ∷ []) 7;
+      gives = record { said = embedded (Tree 22); table = []; js = []; us = pos 0 ∷ pos 4 ∷ pos 20 ∷ pos 2 ∷ pos 10 ∷ []; vs = pos 0 ∷ pos 4 ∷ pos 20 ∷ pos 2 ∷ pos 10 ∷ []; ws = 2 ∷ 2 ∷ 10 ∷ 8 ∷ 0 ∷ [] };
+    }
+    -- P6: "same sinks, pairs (0,2) (3,1): total 30; sink 1 snakes 4"
+    ∷ record {
+      call = embed (pos 0 ∷ pos 2 ∷ pos 10 ∷ []) (pos 0 ∷ pos 0 ∷ pos 0 ∷ []) (0 ∷ 2 ∷ 3 ∷ 1 ∷ []) 7;
+      gives = record { said = embedded (Tree 30); table = []; js = []; us = pos 0 ∷ pos 4 ∷ pos 20 ∷ pos 10 ∷ pos 10 ∷ []; vs = pos 0 ∷ pos 4 ∷ pos 20 ∷ pos 10 ∷ pos 10 ∷ []; ws = 10 ∷ 10 ∷ 10 ∷ 0 ∷ 0 ∷ [] };
+    }
+    -- P7: "same sinks, budget 4: subset 7 holds 18"
+    ∷ record {
+      call = search (pos 0 ∷ pos 2 ∷ pos 10 ∷ []) (pos 0 ∷ pos 0 ∷ pos 0 ∷ []) 4;
+      gives = record { said = searched (found.Tree (record { total = 22; steps = 4; proven = false })); table = 0 ∷ 0 ∷ 0 ∷ 2 ∷ 0 ∷ 10 ∷ 8 ∷ 18 ∷ []; js = 0 ∷ 1 ∷ 2 ∷ 3 ∷ []; us = pos 0 ∷ pos 4 ∷ pos 20 ∷ pos 2 ∷ pos 10 ∷ []; vs = pos 0 ∷ pos 4 ∷ pos 20 ∷ pos 2 ∷ pos 10 ∷ []; ws = 2 ∷ 2 ∷ 10 ∷ 8 ∷ 0 ∷ [] };
+    }
+    -- P8: "budget 5: 12, unproven"
+    ∷ record {
+      call = search (pos 0 ∷ pos 2 ∷ pos 10 ∷ []) (pos 0 ∷ pos 0 ∷ pos 0 ∷ []) 5;
+      gives = record { said = searched (found.Tree (record { total = 22; steps = 5; proven = false })); table = 0 ∷ 0 ∷ 0 ∷ 2 ∷ 0 ∷ 10 ∷ 8 ∷ 12 ∷ []; js = 0 ∷ 1 ∷ 2 ∷ 3 ∷ []; us = pos 0 ∷ pos 4 ∷ pos 20 ∷ pos 2 ∷ pos 10 ∷ []; vs = pos 0 ∷ pos 4 ∷ pos 20 ∷ pos 2 ∷ pos 10 ∷ []; ws = 2 ∷ 2 ∷ 10 ∷ 8 ∷ 0 ∷ [] };
+    }
+    -- P9: "budget 6: proven, total 22"
+    ∷ record {
+      call = search (pos 0 ∷ pos 2 ∷ pos 10 ∷ []) (pos 0 ∷ pos 0 ∷ pos 0 ∷ []) 6;
+      gives = record { said = searched (found.Tree (record { total = 22; steps = 6; proven = true })); table = 0 ∷ 0 ∷ 0 ∷ 2 ∷ 0 ∷ 10 ∷ 8 ∷ 12 ∷ []; js = 0 ∷ 1 ∷ 3 ∷ 2 ∷ []; us = pos 0 ∷ pos 4 ∷ pos 20 ∷ pos 2 ∷ pos 10 ∷ []; vs = pos 0 ∷ pos 4 ∷ pos 20 ∷ pos 2 ∷ pos 10 ∷ []; ws = 2 ∷ 2 ∷ 10 ∷ 8 ∷ 0 ∷ [] };
+    }
+    -- P10: "case D, budget 24: pairs (1,2) (0,4) (3,5), total 32, unproven"
+    ∷ record {
+      call = search (pos 0 ∷ pos 4 ∷ pos 7 ∷ pos 11 ∷ []) (pos 0 ∷ pos 0 ∷ pos 0 ∷ pos 0 ∷ []) 24;
+      gives = record { said = searched (found.Tree (record { total = 32; steps = 24; proven = false })); table = 0 ∷ 0 ∷ 0 ∷ 4 ∷ 0 ∷ 7 ∷ 3 ∷ 10 ∷ 0 ∷ 11 ∷ 7 ∷ 15 ∷ 4 ∷ 15 ∷ 10 ∷ 19 ∷ []; js = 1 ∷ 2 ∷ 0 ∷ 4 ∷ 3 ∷ 5 ∷ []; us = pos 0 ∷ pos 8 ∷ pos 14 ∷ pos 22 ∷ pos 11 ∷ pos 7 ∷ pos 11 ∷ []; vs = pos 0 ∷ pos 8 ∷ pos 14 ∷ pos 22 ∷ pos 11 ∷ pos 7 ∷ pos 11 ∷ []; ws = 7 ∷ 3 ∷ 3 ∷ 11 ∷ 4 ∷ 4 ∷ 0 ∷ [] };
+    }
+    -- "budget 25: total 30"
+    ∷ record {
+      call = search (pos 0 ∷ pos 4 ∷ pos 7 ∷ pos 11 ∷ []) (pos 0 ∷ pos 0 ∷ pos 0 ∷ pos 0 ∷ []) 25;
+      gives = record { said = searched (found.Tree (record { total = 30; steps = 25; proven = true })); table = 0 ∷ 0 ∷ 0 ∷ 4 ∷ 0 ∷ 7 ∷ 3 ∷ 10 ∷ 0 ∷ 11 ∷ 7 ∷ 15 ∷ 4 ∷ 15 ∷ 10 ∷ 19 ∷ []; js = 0 ∷ 1 ∷ 2 ∷ 3 ∷ 4 ∷ 5 ∷ []; us = pos 0 ∷ pos 8 ∷ pos 14 ∷ pos 22 ∷ pos 4 ∷ pos 18 ∷ pos 11 ∷ []; vs = pos 0 ∷ pos 8 ∷ pos 14 ∷ pos 22 ∷ pos 4 ∷ pos 18 ∷ pos 11 ∷ []; ws = 4 ∷ 4 ∷ 4 ∷ 4 ∷ 7 ∷ 7 ∷ 0 ∷ [] };
+    }
+    -- P11: "x = 1,000,000 accepted, 1,000,001 refused 4"
+    ∷ record {
+      call = check 512 (pos 1000000 ∷ []) (pos 0 ∷ []);
+      gives = record { said = checked Fine; table = []; js = []; us = []; vs = []; ws = [] };
+    }
+    -- at place 0, the lowest such sink
+    ∷ record {
+      call = check 512 (pos 1000001 ∷ []) (pos 0 ∷ []);
+      gives = record { said = checked (Refused (Outside 0)); table = []; js = []; us = []; vs = []; ws = [] };
+    }
+    -- P12: "12 sinks accepted for the search"
+    ∷ record {
+      call = check 12 (pos 0 ∷ pos 1 ∷ pos 2 ∷ pos 3 ∷ pos 4 ∷ pos 5 ∷ pos 6 ∷ pos 7 ∷ pos 8 ∷ pos 9 ∷ pos 10 ∷ pos 11 ∷ []) (pos 0 ∷ pos 0 ∷ pos 0 ∷ pos 0 ∷ pos 0 ∷ pos 0 ∷ pos 0 ∷ pos 0 ∷ pos 0 ∷ pos 0 ∷ pos 0 ∷ pos 0 ∷ []);
+      gives = record { said = checked Fine; table = []; js = []; us = []; vs = []; ws = [] };
+    }
+    -- "13 refused 3"
+    ∷ record {
+      call = check 12 (pos 0 ∷ pos 1 ∷ pos 2 ∷ pos 3 ∷ pos 4 ∷ pos 5 ∷ pos 6 ∷ pos 7 ∷ pos 8 ∷ pos 9 ∷ pos 10 ∷ pos 11 ∷ pos 12 ∷ []) (pos 0 ∷ pos 0 ∷ pos 0 ∷ pos 0 ∷ pos 0 ∷ pos 0 ∷ pos 0 ∷ pos 0 ∷ pos 0 ∷ pos 0 ∷ pos 0 ∷ pos 0 ∷ pos 0 ∷ []);
+      gives = record { said = checked (Refused TooMany); table = []; js = []; us = []; vs = []; ws = [] };
+    }
+    -- "F(12) = 261,625"
+    ∷ record {
+      call = example.steps 12;
+      gives = record { said = counted 261625; table = []; js = []; us = []; vs = []; ws = [] };
+    }
+    -- one sink is joined to nothing
+    ∷ record {
+      call = join (pos 3 ∷ []) (negsuc 4 ∷ []) 6;
+      gives = record { said = joined Order; table = []; js = []; us = []; vs = []; ws = [] };
+    }
+    -- the nearest two first
+    ∷ record {
+      call = join (pos 0 ∷ pos 10 ∷ pos 2 ∷ []) (pos 0 ∷ pos 0 ∷ pos 0 ∷ []) 6;
+      gives = record { said = joined Order; table = []; js = 0 ∷ 2 ∷ 1 ∷ 3 ∷ []; us = []; vs = []; ws = [] };
+    }
+    -- of equal pairs the lower first number
+    ∷ record {
+      call = join (pos 0 ∷ pos 1 ∷ pos 2 ∷ pos 3 ∷ []) (pos 0 ∷ pos 0 ∷ pos 0 ∷ pos 0 ∷ []) 6;
+      gives = record { said = joined Order; table = []; js = 0 ∷ 1 ∷ 2 ∷ 3 ∷ 4 ∷ 5 ∷ []; us = []; vs = []; ws = [] };
+    }
+    -- then the lower second
+    ∷ record {
+      call = join (pos 0 ∷ pos 2 ∷ pos 0 ∷ []) (pos 0 ∷ pos 0 ∷ pos 2 ∷ []) 6;
+      gives = record { said = joined Order; table = []; js = 0 ∷ 1 ∷ 2 ∷ 3 ∷ []; us = []; vs = []; ws = [] };
+    }
+    -- the least union, though two segments are nearer to each other (000)
+    ∷ record {
+      call = join (pos 0 ∷ pos 10 ∷ pos 22 ∷ pos 42 ∷ []) (pos 0 ∷ pos 0 ∷ pos 0 ∷ pos 0 ∷ []) 6;
+      gives = record { said = joined Order; table = []; js = 0 ∷ 1 ∷ 2 ∷ 3 ∷ 4 ∷ 5 ∷ []; us = []; vs = []; ws = [] };
+    }
+    -- 1: lists of unlike length
+    ∷ record {
+      call = embed (pos 0 ∷ []) [] [] 7;
+      gives = record { said = embedded (NoTree Lists); table = []; js = []; us = []; vs = []; ws = [] };
+    }
+    -- 5: the lowest sink that repeats an earlier one
+    ∷ record {
+      call = embed (pos 0 ∷ pos 4 ∷ pos 0 ∷ []) (pos 0 ∷ pos 0 ∷ pos 0 ∷ []) (0 ∷ 1 ∷ 3 ∷ 2 ∷ []) 7;
+      gives = record { said = embedded (NoTree (Repeated 2)); table = []; js = []; us = []; vs = []; ws = [] };
+    }
+    -- 6: half a pair
+    ∷ record {
+      call = embed (pos 0 ∷ pos 4 ∷ []) (pos 0 ∷ pos 0 ∷ []) (0 ∷ 1 ∷ 0 ∷ []) 7;
+      gives = record { said = embedded (NoTree (Joins 1)); table = []; js = []; us = []; vs = []; ws = [] };
+    }
+    -- 6: too few pairs
+    ∷ record {
+      call = embed (pos 0 ∷ pos 2 ∷ pos 10 ∷ []) (pos 0 ∷ pos 0 ∷ pos 0 ∷ []) (0 ∷ 1 ∷ []) 7;
+      gives = record { said = embedded (NoTree (Joins 1)); table = []; js = []; us = []; vs = []; ws = [] };
+    }
+    -- 6: too many pairs
+    ∷ record {
+      call = embed (pos 0 ∷ pos 4 ∷ []) (pos 0 ∷ pos 0 ∷ []) (0 ∷ 1 ∷ 0 ∷ 1 ∷ []) 7;
+      gives = record { said = embedded (NoTree (Joins 1)); table = []; js = []; us = []; vs = []; ws = [] };
+    }
+    -- 6: a node named again
+    ∷ record {
+      call = embed (pos 0 ∷ pos 2 ∷ pos 10 ∷ []) (pos 0 ∷ pos 0 ∷ pos 0 ∷ []) (0 ∷ 1 ∷ 0 ∷ 2 ∷ []) 7;
+      gives = record { said = embedded (NoTree (Joins 1)); table = []; js = []; us = []; vs = []; ws = [] };
+    }
+    -- 6: a node that is not lower
+    ∷ record {
+      call = embed (pos 0 ∷ pos 2 ∷ pos 10 ∷ []) (pos 0 ∷ pos 0 ∷ pos 0 ∷ []) (0 ∷ 3 ∷ 1 ∷ 2 ∷ []) 7;
+      gives = record { said = embedded (NoTree (Joins 0)); table = []; js = []; us = []; vs = []; ws = [] };
+    }
+    -- 6: a node twice in a pair
+    ∷ record {
+      call = embed (pos 0 ∷ pos 2 ∷ pos 10 ∷ []) (pos 0 ∷ pos 0 ∷ pos 0 ∷ []) (1 ∷ 1 ∷ 3 ∷ 2 ∷ []) 7;
+      gives = record { said = embedded (NoTree (Joins 0)); table = []; js = []; us = []; vs = []; ws = [] };
+    }
+    -- 7: a buffer one too short
+    ∷ record {
+      call = embed (pos 0 ∷ pos 4 ∷ []) (pos 0 ∷ pos 0 ∷ []) (0 ∷ 1 ∷ []) 2;
+      gives = record { said = embedded (NoTree Room); table = []; js = []; us = []; vs = []; ws = [] };
+    }
+    ∷ []
+
+unfoldable pub called : Row → Outcome
+called r = outcome (r .call)
+
+unfoldable pub given : Row → Outcome
+given r = r .gives
+
+pub table-holds : map called table ≡ map given table
+unfolding table called given outcome checkSinks checkJoins checkOrder answer climb node parent greatest least diameter sinksOf nearest.best nearest.joins nearest.order checkNearest rising keep sinksIn diam isPart splits stepsOf steps blanks tableAfter firstOr keptPart keptIn joinCount nodeIn pairsOf checkRooms checkSearch joinsFound foundBy trailingZeros ones onesIn
+table-holds = refl

@@ -1,0 +1,58 @@
+use mathlib.Core.Path.{sym, _∙_}
+use denote.Ref.{now}
+use Rattle.embedding.proofs.Accepted.{both-pass}
+use Rattle.house.specs.Form.{form}
+use Rattle.house.specs.Reading.{checkJoinedFile}
+use Rattle.house.proofs.Standing.{formed}
+use Rattle.house.proofs.JoinsAnswers.{joins-refused, joins-passed}
+use borrow.Author.Needs.{needs}
+use Rattle.house.proofs.joined_file.read_joined.Statement.{statement}
+use Rattle.house.proofs.joined_file.read_joined.Tie as tie
+
+check-joined-file-requires : tie.Need-check-joined-file-requires
+check-joined-file-requires c κs = search needs
+
+enum-known-said : tie.Need-enum-known-said
+enum-known-said c = search needs
+
+returns : tie.Need-returns
+returns c =
+    joins-refused (sym (c .before .before .before .check-joined-file .ensures) ∙ c .before .said .given .1)
+
+enum-told : tie.Need-enum-told
+enum-told c = search needs
+
+take-joins-requires : tie.Need-take-joins-requires
+unfolding checkJoinedFile
+take-joins-requires c κs =
+    let t = c .before .before .before in
+    let f = now (c .before .before .before .before .before .before .before .before .args .file) in
+    formed 3 f (both-pass (form 3 f) _ (sym (t .before .before .check-joined-file .ensures) ∙ t .enum-told .given .1) .0)
+
+same-length : tie.Need-same-length
+same-length c = search needs
+
+same-length-2 : tie.Need-same-length-2
+same-length-2 c = search needs
+
+same-length-3 : tie.Need-same-length-3
+same-length-3 c = search needs
+
+returns-2 : tie.Need-returns-2
+returns-2 c =
+    let t = c .before .before .before .before .before .before .before .before in
+    joins-passed (sym (t .before .before .check-joined-file .ensures) ∙ t .enum-told .given .1) (c .before .before .before .before .take-joins .ensures)
+
+pub read-joined-spec : {M : Type 1} → statement M
+read-joined-spec =
+    tie.close
+    (tie.spec
+    check-joined-file-requires
+    enum-known-said
+    returns
+    enum-told
+    take-joins-requires
+    same-length
+    same-length-2
+    same-length-3
+    returns-2)

@@ -1,0 +1,77 @@
+-- What a reader's answer says of the check of its file, where the buffers hold 512 sinks.
+use mathlib.Core.Path.{_≡_, refl, sym, ap, _∙_}
+use mathlib.Core.List.{List, _++_}
+use Prim.Native.Nat.{ℕ, _-_, _≤_, _<_}
+use native.Mathlib.Omega.{arith}
+use borrow.Author.Tests.{le-ltb}
+use lib.IntN.{ℤ}
+use lib.ListN.{length, take, drop, length-append}
+use Rattle.plane.specs.Sinks.{checkSinks}
+use Rattle.plane.specs.declared.refusal.Refusal.{Refusal}
+use Rattle.plane.specs.declared.refusal.Checked.{Checked}
+use Rattle.plane.specs.declared.refusal.Checked.the-variants.{Fine, Refused}
+use Rattle.plane.proofs.Checks.{accepted}
+use Rattle.embedding.specs.Embedding.{andThen}
+use Rattle.house.specs.Form.{form}
+use Rattle.house.specs.Reading.{checkSinkFile, xsIn, ysIn, readAfter, taken, ReadsSinks}
+use Rattle.house.specs.Writing.{roomFor}
+use Rattle.house.specs.declared.answer.Reading.{Reading}
+use Rattle.house.specs.declared.answer.Reading.the-variants.{Sinks, NotRead}
+use Rattle.lines.specs.Parts.{Sinked}
+use Rattle.lines.proofs.Fronts.{written-part}
+
+then-fine : (a b : Checked) → andThen a b ≡ Fine → b ≡ Fine
+then-fine Fine b e = e
+then-fine (Refused r) b e = let z : _≡_ {A = ℕ} 0 1 = cc in let x : ⊥ = omega arith in absurd x
+
+sinks-fine : (f : List ℕ) → checkSinkFile f ≡ Fine → checkSinks 512 (xsIn f) (ysIn f) ≡ Fine
+unfolding checkSinkFile
+sinks-fine f e = then-fine (form 2 f) (checkSinks 512 (xsIn f) (ysIn f)) e
+
+pub sinked : (f : List ℕ) → checkSinkFile f ≡ Fine → Sinked (xsIn f) (ysIn f)
+sinked f e =
+    let q = sinks-fine f e in
+    let a = accepted 512 (xsIn f) (ysIn f) q in
+    record { checked = q; ranged = a .ranged; some = a .some; few = a .few }
+
+module _ (f : List ℕ) {xs ys xs′ ys′ : List ℤ} {said : Reading} (m : ReadsSinks (checkSinkFile f) (xsIn f) (ysIn f) xs ys said xs′ ys′) (lx : length xs ≡ 512) (ly : length ys ≡ 512) where
+  -- the answer without the rooms, which suffice
+  said-is : said ≡ readAfter (checkSinkFile f) (length (xsIn f))
+  said-is = go (checkSinkFile f) refl
+    where
+      go : (c : Checked) → checkSinkFile f ≡ c → said ≡ readAfter (checkSinkFile f) (length (xsIn f))
+      go Fine e = m .answers ∙ rw (e, lx, ly, le-ltb 512 (length (xsIn f)) (sinked f e .few))
+      go (Refused r) e = m .answers ∙ rw e
+
+  pub refused-is : {r : Refusal} → said ≡ NotRead r → checkSinkFile f ≡ Refused r
+  refused-is {r} q = go (checkSinkFile f) refl
+    where
+      go : (c : Checked) → checkSinkFile f ≡ c → checkSinkFile f ≡ Refused r
+      go Fine e = let t = rw e at said-is in let z : _≡_ {A = ℕ} 0 1 = cc in let x : ⊥ = omega arith in absurd x
+      go (Refused r′) e = let t = rw e at said-is in let i : r′ ≡ r = cc in e ∙ ap Refused i
+
+  pub record Taken (n : ℕ) : Type 0 where
+    pub fine : checkSinkFile f ≡ Fine
+    pub counts : n ≡ length (xsIn f)
+    pub takes-x : take (n - 0) xs′ ≡ xsIn f
+    pub takes-y : take (n - 0) ys′ ≡ ysIn f
+    pub room-x : n ≤ length xs′
+    pub room-y : n ≤ length ys′
+
+  pub taken-is : {n : ℕ} → said ≡ Sinks n → Taken n
+  taken-is {n} q = go (checkSinkFile f) refl
+    where
+      go : (c : Checked) → checkSinkFile f ≡ c → Taken n
+      go (Refused r) e = let t = rw e at said-is in let z : _≡_ {A = ℕ} 0 1 = cc in let x : ⊥ = omega arith in absurd x
+      go Fine e =
+          let t = rw e at said-is in
+          let i : n ≡ length (xsIn f) = cc in
+          let a = sinked f e .ranged .alike in
+          record {
+            fine = e;
+            counts = i;
+            takes-x = rw (rw q at (m .writes-x)) (written-part (xsIn f) xs n (sym i));
+            takes-y = rw (rw q at (m .writes-y)) (written-part (ysIn f) ys n (sym a ∙ sym i));
+            room-x = rw (rw q at (m .writes-x), length-append (xsIn f) (drop (length (xsIn f)) xs)) (omega arith);
+            room-y = rw (rw q at (m .writes-y), length-append (ysIn f) (drop (length (ysIn f)) ys)) (omega arith);
+          }

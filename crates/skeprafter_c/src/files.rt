@@ -1,0 +1,78 @@
+// House files, written and read.
+ghost use Rattle.plane.specs.Sinks.{checkSinks};
+ghost use Rattle.embedding.specs.Embedding.{checkOrder};
+ghost use Rattle.house.specs.Files.{sinkFile, joinedFile, treeFile};
+ghost use Rattle.house.specs.Reading.{xsIn, ysIn, joinsIn, checkSinkFile, checkJoinedFile, checkTreeFile};
+ghost use Rattle.skeprafter_c.specs.Files.{Writes, ReadsSinks, ReadsJoins};
+use crate::said;
+
+#[no_mangle]
+pub extern "C" fn skeprafter_write_sinks(x: &[i32], y: &[i32], out: &mut [u8], said: &mut [u64; 6])
+    ensures { λ _. ⌜ Writes (checkSinks 512 (now (x .entry)) (now (y .entry))) (sinkFile (now (x .entry)) (now (y .entry))) (now (out .entry)) (now (out .exit)) (now (said .exit)) ⌝ }
+{
+    *said = said::of_written(skeprafter::write_sinks(x, y, out));
+}
+
+#[no_mangle]
+pub extern "C" fn skeprafter_write_joined(
+    x: &[i32],
+    y: &[i32],
+    joins: &[u16],
+    out: &mut [u8],
+    said: &mut [u64; 6],
+)
+    ensures { λ _. ⌜ Writes (checkOrder (now (x .entry)) (now (y .entry)) (now (joins .entry))) (joinedFile (now (x .entry)) (now (y .entry)) (now (joins .entry))) (now (out .entry)) (now (out .exit)) (now (said .exit)) ⌝ }
+{
+    *said = said::of_written(skeprafter::write_joined(x, y, joins, out));
+}
+
+#[no_mangle]
+pub extern "C" fn skeprafter_write_tree(
+    x: &[i32],
+    y: &[i32],
+    joins: &[u16],
+    out: &mut [u8],
+    said: &mut [u64; 6],
+)
+    ensures { λ _. ⌜ Writes (checkOrder (now (x .entry)) (now (y .entry)) (now (joins .entry))) (treeFile (now (x .entry)) (now (y .entry)) (now (joins .entry))) (now (out .entry)) (now (out .exit)) (now (said .exit)) ⌝ }
+{
+    *said = said::of_written(skeprafter::write_tree(x, y, joins, out));
+}
+
+#[no_mangle]
+pub extern "C" fn skeprafter_read_sinks(
+    file: &[u8],
+    x: &mut [i32],
+    y: &mut [i32],
+    said: &mut [u64; 6],
+)
+    ensures { λ _. ⌜ ReadsSinks (checkSinkFile (now (file .entry))) (xsIn (now (file .entry))) (ysIn (now (file .entry))) (now (x .entry)) (now (y .entry)) (now (x .exit)) (now (y .exit)) (now (said .exit)) ⌝ }
+{
+    *said = said::of_read(skeprafter::read_sinks(file, x, y));
+}
+
+#[no_mangle]
+pub extern "C" fn skeprafter_read_joined(
+    file: &[u8],
+    x: &mut [i32],
+    y: &mut [i32],
+    joins: &mut [u16],
+    said: &mut [u64; 6],
+)
+    ensures { λ _. ⌜ ReadsJoins (checkJoinedFile (now (file .entry))) (xsIn (now (file .entry))) (ysIn (now (file .entry))) (joinsIn (now (file .entry))) (now (x .entry)) (now (y .entry)) (now (joins .entry)) (now (x .exit)) (now (y .exit)) (now (joins .exit)) (now (said .exit)) ⌝ }
+{
+    *said = said::of_read(skeprafter::read_joined(file, x, y, joins));
+}
+
+#[no_mangle]
+pub extern "C" fn skeprafter_read_tree(
+    file: &[u8],
+    x: &mut [i32],
+    y: &mut [i32],
+    joins: &mut [u16],
+    said: &mut [u64; 6],
+)
+    ensures { λ _. ⌜ ReadsJoins (checkTreeFile (now (file .entry))) (xsIn (now (file .entry))) (ysIn (now (file .entry))) (joinsIn (now (file .entry))) (now (x .entry)) (now (y .entry)) (now (joins .entry)) (now (x .exit)) (now (y .exit)) (now (joins .exit)) (now (said .exit)) ⌝ }
+{
+    *said = said::of_read(skeprafter::read_tree(file, x, y, joins));
+}
