@@ -17,7 +17,8 @@ use Rattle.plane.specs.declared.refusal.Refusal.the-variants.{Joins, Room}
 use Rattle.plane.specs.declared.refusal.Checked.{Checked}
 use Rattle.plane.specs.declared.refusal.Checked.the-variants.{Fine, Refused}
 use Rattle.embedding.specs.Joins.{left, right, named, badPair, firstBad, checkJoins, Valid}
-use Rattle.embedding.specs.Embedding.{andThen, checkOrder, checkRoom}
+use Rattle.embedding.specs.Embedding.{checkOrder, checkRoom}
+use Rattle.plane.specs.Refusals.{andThen}
 use Rattle.embedding.specs.Sound.{Sound}
 use Rattle.embedding.proofs.Any.{any-none}
 use Rattle.embedding.proofs.Flags.{or-no}

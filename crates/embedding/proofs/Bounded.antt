@@ -33,10 +33,10 @@ sum-up-to f (suc m) h = omega (arith, h m (omega arith), sum-up-to f m (λ i l. 
 
 module _ (xs ys : List ℤ) (r : Ranged xs ys) where
   -- a sink that is not there stands at 0, 0
-  x-in : (i : ℕ) → T (inRange (getD xs i (pos 0)))
+  pub x-in : (i : ℕ) → T (inRange (getD xs i (pos 0)))
   x-in i = ⊎-elim (λ h. in-both xs ys r i h .0) (λ h. rw (List·getD-eq-default xs (pos 0) {n = i} h) tt) (or-lt i (length xs))
 
-  y-in : (i : ℕ) → T (inRange (getD ys i (pos 0)))
+  pub y-in : (i : ℕ) → T (inRange (getD ys i (pos 0)))
   y-in i = ⊎-elim (λ h. in-both xs ys r i h .1) (λ h. rw (List·getD-eq-default ys (pos 0) {n = i} (omega (arith, r .alike))) tt) (or-lt i (length xs))
 
   far : (i j : ℕ) → apart (sinksAt xs ys) i j ≤ 4000000

@@ -16,3 +16,4 @@ pub mod Described
 pub mod ZeroSkew
 pub mod Outcomes
 pub mod Bounded
+pub mod Fits

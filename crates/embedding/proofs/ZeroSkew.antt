@@ -6,7 +6,7 @@ use native.Mathlib.Omega.{arith}
 use lib.IntN.{ℤ, pos}
 use lib.ListN.{length, getD, drop, List·getD-append}
 use Rattle.lists.specs.Grow.{tab, front, sumTo}
-use Rattle.lists.proofs.Grow.{length-grow, grow-at, tab-at, sum-same}
+use Rattle.lists.proofs.Grow.{length-grow, sum-same, getD-tab}
 use Rattle.lists.proofs.Sums.{sum-none}
 use Rattle.zero_skew.specs.Plane.{Sinks, u, v}
 use Rattle.zero_skew.specs.Order.{Order, one, both, order, embed}
@@ -18,7 +18,8 @@ use Rattle.plane.specs.declared.refusal.Checked.{Checked}
 use Rattle.plane.specs.declared.refusal.Checked.the-variants.{Fine, Refused}
 use Rattle.embedding.specs.declared.embed.Embedded.the-variants.{Tree}
 use Rattle.embedding.specs.Nodes.{node, value, wire}
-use Rattle.embedding.specs.Embedding.{total, andThen, checkOrder, checkRoom, treeAfter, answer}
+use Rattle.embedding.specs.Embedding.{total, checkOrder, checkRoom, treeAfter, answer}
+use Rattle.plane.specs.Refusals.{andThen}
 use Rattle.embedding.specs.Sound.{Ordered, Sound, Embeds}
 use Rattle.embedding.specs.Permitted.{Permitted}
 use Rattle.embedding.specs.Described.{Level}
@@ -58,7 +59,7 @@ module _ (s : Sinks) (still : (i : ℕ) → s .wait i ≡ 0) (js : List ℕ) (o 
 pub front-at : {A : Type 0} (f : ℕ → A) (m : ℕ) (old : List A) (k : ℕ) (e : A) → k < m → getD (front (tab f m) old) k e ≡ f k
 front-at f m old k e h =
     List·getD-append (tab f m) (drop (length (tab f m)) old) e k (omega (arith, length-grow (λ l. f (length l)) m))
-    ∙ grow-at (λ l. f (length l)) m k e h ∙ tab-at f k
+    ∙ getD-tab f m k e h
 
 pub embeds-level : (xs ys : List ℤ) (js : List ℕ) (us vs : List ℤ) (ws : List ℕ) (t : ℕ) (us′ vs′ : List ℤ) (ws′ : List ℕ)
     → Sound xs ys js → Embeds xs ys js us vs ws t us′ vs′ ws′ → Level (sinksAt xs ys) js us′ vs′ ws′ t

@@ -6,7 +6,7 @@ use lib.IntN.{ℤ}
 use lib.ListN.{length}
 use Rattle.lists.specs.Grow.{tab, sumTo}
 use Rattle.zero_skew.specs.Plane.{Sinks, u, v}
-use Rattle.plane.specs.Refusals.{refuseIf}
+use Rattle.plane.specs.Refusals.{refuseIf, andThen}
 use Rattle.plane.specs.Sinks.{sinksAt, checkSinks}
 use Rattle.plane.specs.declared.refusal.Refusal.the-variants.{Room}
 use Rattle.plane.specs.declared.refusal.Checked.{Checked}
@@ -29,11 +29,6 @@ wires s js = tab (wire s js) (2 * s .n - 1)
 -- "Total in half units: the sum of d over all joins, plus d(root)."
 abbrev pub total : Sinks → List ℕ → ℕ
 total s js = sumTo (λ i. d s js (s .n + i)) (s .n - 1) + d s js (2 * s .n - 2)
-
--- one check, then another
-abbrev pub andThen : Checked → Checked → Checked
-andThen Fine next = next
-andThen (Refused r) next = Refused r
 
 -- refusals 1 to 6
 unfoldable pub checkOrder : List ℤ → List ℤ → List ℕ → Checked

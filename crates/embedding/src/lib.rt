@@ -2,6 +2,6 @@
 pub mod check;
 pub mod embed;
 pub mod joins;
-mod nodes;
+pub mod nodes;
 mod places;
 mod wires;

@@ -2,25 +2,31 @@
 use mathlib.Core.List.{List, []}
 use Prim.Native.Nat.{ℕ}
 use lib.IntN.{ℤ}
-use lib.ListN.{length}
 use Rattle.plane.specs.Sinks.{sinksAt, checkSinks}
 use Rattle.plane.specs.declared.refusal.Checked.{Checked}
 use Rattle.embedding.specs.Embedding.{answer, written, placesU, placesV, wires}
 use Rattle.embedding.specs.declared.embed.Embedded.{Embedded}
 use Rattle.nearest.specs.Calls.{orderAt, checkNearest, orderAfter, ifOrder}
 use Rattle.nearest.specs.declared.order.Joined.{Joined}
+use Rattle.house.specs.Files.{sinkFile}
+use Rattle.house.specs.Form as house
+use Rattle.lines.specs.Program.{textOf}
 use Rattle.search.specs.Best.{stepCount}
 use Rattle.search.specs.Rooms.{checkSearch}
 use Rattle.search.specs.Searching.{tableOf, joinsFound, found, foundAfter, ifTree}
 use Rattle.search.specs.declared.search.Searched.{Searched}
 
--- a call with the sinks' x and y; its buffers have room for whatever four sinks fill, or as much as is said
+-- a call with the sinks' x and y (its buffers have room for whatever four sinks fill, or as much as is said), the sink file of some sinks, the check of a
+-- file's form up to its last tag, or what the program prints for a file
 pub data Call : Type 0 where
   embed : (xs ys : List ℤ) (js : List ℕ) (room : ℕ) → Call
   join : (xs ys : List ℤ) (room : ℕ) → Call
   search : (xs ys : List ℤ) (budget : ℕ) → Call
   check : (limit : ℕ) (xs ys : List ℤ) → Call
   steps : (n : ℕ) → Call
+  file : (xs ys : List ℤ) → Call
+  form : (last : ℕ) (bytes : List ℕ) → Call
+  print : (bytes : List ℕ) → Call
 
 pub data Said : Type 0 where
   embedded : Embedded → Said
@@ -28,6 +34,7 @@ pub data Said : Type 0 where
   searched : Searched → Said
   checked : Checked → Said
   counted : ℕ → Said
+  bytes : List ℕ → Said
 
 -- what it says, then the work table, the pairs, U, V and the wires that it writes
 pub record Outcome : Type 0 where
@@ -75,3 +82,6 @@ outcome (search xs ys budget) =
     }
 outcome (check limit xs ys) = says (checked (checkSinks limit xs ys))
 outcome (steps n) = says (counted (stepCount n))
+outcome (file xs ys) = says (bytes (sinkFile xs ys))
+outcome (form last f) = says (checked (house.form last f))
+outcome (print f) = says (bytes (textOf f))

@@ -1,4 +1,4 @@
--- Document 01, "Table of checked examples": P1 to P12 as one table under one statement. Further rows show the ties of joining by least diameter, and refusals 1, 5, 6 and 7.
+-- Document 01, "Table of checked examples": P1 to P12 as one table under one statement. Further rows show the ties of joining by least diameter, refusals 1 and 5 to 8, case D as a file and as text.
 use mathlib.Core.Path.{_≡_, refl}
 use mathlib.Core.Bool.{true, false}
 use mathlib.Core.List.{List, [], _∷_, map}
@@ -7,7 +7,7 @@ use lib.Count.{ones, onesIn, trailingZeros}
 use Rattle.zero_skew.specs.Box.{greatest, least, diameter}
 use Rattle.zero_skew.specs.Order.{sinksOf}
 use Rattle.plane.specs.Sinks.{checkSinks}
-use Rattle.plane.specs.declared.refusal.Refusal.the-variants.{Lists, NoSink, TooMany, Outside, Repeated, Joins, Room}
+use Rattle.plane.specs.declared.refusal.Refusal.the-variants.{Lists, NoSink, TooMany, Outside, Repeated, Joins, Room, Form}
 use Rattle.plane.specs.declared.refusal.Checked.the-variants.{Fine, Refused}
 use Rattle.embedding.specs.Joins.{checkJoins}
 use Rattle.embedding.specs.Nodes.{climb, node, parent}
@@ -22,8 +22,17 @@ use Rattle.search.specs.Kept.{firstOr, keptPart, keptIn, joinCount, nodeIn, pai
 use Rattle.search.specs.Rooms.{checkRooms, checkSearch}
 use Rattle.search.specs.Searching.{joinsFound, found as foundBy}
 use Rattle.search.specs.declared.search.Searched.the-variants as found
+use Rattle.house.specs.Bytes.{big, numberAt}
+use Rattle.house.specs.Fields.{field, records, places, firsts, seconds}
+use Rattle.house.specs.Files.{sinkFile}
+use Rattle.house.specs.Form.{bodyAt, fieldAt, formFrom, past}
+use Rattle.house.specs.Reading.{checkSinkFile}
+use Rattle.lines.specs.Brackets.{brackets}
+use Rattle.lines.specs.Decimal.{digits, decimal, signed}
+use Rattle.lines.specs.Lines.{firstLine, secondLine, parentField, nodeLine, nodeLines, treeText, refusalLine}
+use Rattle.lines.specs.Program as program
 use Rattle.examples.specs.Example as example
-use Rattle.examples.specs.Example.{Call, embed, join, search, check, Outcome, embedded, joined, searched, checked, counted, outcome}
+use Rattle.examples.specs.Example.{Call, embed, join, search, check, file, form, print, Outcome, embedded, joined, searched, checked, counted, bytes, outcome}
 
 pub record Row : Type 0 where
   pub call : Call
@@ -146,6 +155,11 @@ table =
       call = join (pos 0 ∷ pos 10 ∷ pos 22 ∷ pos 42 ∷ []) (pos 0 ∷ pos 0 ∷ pos 0 ∷ pos 0 ∷ []) 6;
       gives = record { said = joined Order; table = []; js = 0 ∷ 1 ∷ 2 ∷ 3 ∷ 4 ∷ 5 ∷ []; us = []; vs = []; ws = [] };
     }
+    -- case D
+    ∷ record {
+      call = join (pos 0 ∷ pos 4 ∷ pos 7 ∷ pos 11 ∷ []) (pos 0 ∷ pos 0 ∷ pos 0 ∷ pos 0 ∷ []) 6;
+      gives = record { said = joined Order; table = []; js = 1 ∷ 2 ∷ 0 ∷ 4 ∷ 3 ∷ 5 ∷ []; us = []; vs = []; ws = [] };
+    }
     -- 1: lists of unlike length
     ∷ record {
       call = embed (pos 0 ∷ []) [] [] 7;
@@ -191,6 +205,96 @@ table =
       call = embed (pos 0 ∷ pos 4 ∷ []) (pos 0 ∷ pos 0 ∷ []) (0 ∷ 1 ∷ []) 2;
       gives = record { said = embedded (NoTree Room); table = []; js = []; us = []; vs = []; ws = [] };
     }
+    -- case D, its file byte for byte
+    ∷ record {
+      call = file (pos 0 ∷ pos 4 ∷ pos 7 ∷ pos 11 ∷ []) (pos 0 ∷ pos 0 ∷ pos 0 ∷ pos 0 ∷ []);
+      gives = record { said = bytes (1 ∷ 0 ∷ 1 ∷ 1 ∷ 2 ∷ 0 ∷ 32 ∷ 0 ∷ 0 ∷ 0 ∷ 0 ∷ 0 ∷ 0 ∷ 0 ∷ 0 ∷ 0 ∷ 0 ∷ 0 ∷ 4 ∷ 0 ∷ 0 ∷ 0 ∷ 0 ∷ 0 ∷ 0 ∷ 0 ∷ 7 ∷ 0 ∷ 0 ∷ 0 ∷ 0 ∷ 0 ∷ 0 ∷ 0 ∷ 11 ∷ 0 ∷ 0 ∷ 0 ∷ 0 ∷ []); table = []; js = []; us = []; vs = []; ws = [] };
+    }
+    -- two's complement below 0
+    ∷ record {
+      call = file (pos 3 ∷ []) (negsuc 4 ∷ []);
+      gives = record { said = bytes (1 ∷ 0 ∷ 1 ∷ 1 ∷ 2 ∷ 0 ∷ 8 ∷ 0 ∷ 0 ∷ 0 ∷ 3 ∷ 255 ∷ 255 ∷ 255 ∷ 251 ∷ []); table = []; js = []; us = []; vs = []; ws = [] };
+    }
+    -- 8: case D is a sink file
+    ∷ record {
+      call = form 2 (1 ∷ 0 ∷ 1 ∷ 1 ∷ 2 ∷ 0 ∷ 32 ∷ 0 ∷ 0 ∷ 0 ∷ 0 ∷ 0 ∷ 0 ∷ 0 ∷ 0 ∷ 0 ∷ 0 ∷ 0 ∷ 4 ∷ 0 ∷ 0 ∷ 0 ∷ 0 ∷ 0 ∷ 0 ∷ 0 ∷ 7 ∷ 0 ∷ 0 ∷ 0 ∷ 0 ∷ 0 ∷ 0 ∷ 0 ∷ 11 ∷ 0 ∷ 0 ∷ 0 ∷ 0 ∷ []);
+      gives = record { said = checked Fine; table = []; js = []; us = []; vs = []; ws = [] };
+    }
+    -- and, read as a joined file, ends before tag 3
+    ∷ record {
+      call = form 3 (1 ∷ 0 ∷ 1 ∷ 1 ∷ 2 ∷ 0 ∷ 32 ∷ 0 ∷ 0 ∷ 0 ∷ 0 ∷ 0 ∷ 0 ∷ 0 ∷ 0 ∷ 0 ∷ 0 ∷ 0 ∷ 4 ∷ 0 ∷ 0 ∷ 0 ∷ 0 ∷ 0 ∷ 0 ∷ 0 ∷ 7 ∷ 0 ∷ 0 ∷ 0 ∷ 0 ∷ 0 ∷ 0 ∷ 0 ∷ 11 ∷ 0 ∷ 0 ∷ 0 ∷ 0 ∷ []);
+      gives = record { said = checked (Refused (Form 39)); table = []; js = []; us = []; vs = []; ws = [] };
+    }
+    -- 8: an empty file
+    ∷ record {
+      call = form 2 [];
+      gives = record { said = checked (Refused (Form 0)); table = []; js = []; us = []; vs = []; ws = [] };
+    }
+    -- 8: a value past the end
+    ∷ record {
+      call = form 2 (1 ∷ 0 ∷ 1 ∷ []);
+      gives = record { said = checked (Refused (Form 0)); table = []; js = []; us = []; vs = []; ws = [] };
+    }
+    -- 8: a file that ends inside a length
+    ∷ record {
+      call = form 2 (1 ∷ 0 ∷ []);
+      gives = record { said = checked (Refused (Form 2)); table = []; js = []; us = []; vs = []; ws = [] };
+    }
+    -- 8: a wrong tag, though the file ends there
+    ∷ record {
+      call = form 2 (2 ∷ []);
+      gives = record { said = checked (Refused (Form 0)); table = []; js = []; us = []; vs = []; ws = [] };
+    }
+    -- 8: another version
+    ∷ record {
+      call = form 2 (1 ∷ 0 ∷ 1 ∷ 2 ∷ []);
+      gives = record { said = checked (Refused (Form 0)); table = []; js = []; us = []; vs = []; ws = [] };
+    }
+    -- 8: no tag 2
+    ∷ record {
+      call = form 2 (1 ∷ 0 ∷ 1 ∷ 1 ∷ []);
+      gives = record { said = checked (Refused (Form 4)); table = []; js = []; us = []; vs = []; ws = [] };
+    }
+    -- 8: tag 3 for tag 2
+    ∷ record {
+      call = form 2 (1 ∷ 0 ∷ 1 ∷ 1 ∷ 3 ∷ []);
+      gives = record { said = checked (Refused (Form 4)); table = []; js = []; us = []; vs = []; ws = [] };
+    }
+    -- 8: no multiple of 8
+    ∷ record {
+      call = form 2 (1 ∷ 0 ∷ 1 ∷ 1 ∷ 2 ∷ 0 ∷ 4 ∷ 0 ∷ 0 ∷ 0 ∷ 0 ∷ []);
+      gives = record { said = checked (Refused (Form 4)); table = []; js = []; us = []; vs = []; ws = [] };
+    }
+    -- a tag 2 of length 0 is of the form
+    ∷ record {
+      call = form 2 (1 ∷ 0 ∷ 1 ∷ 1 ∷ 2 ∷ 0 ∷ 0 ∷ []);
+      gives = record { said = checked Fine; table = []; js = []; us = []; vs = []; ws = [] };
+    }
+    -- 8: the first byte too many
+    ∷ record {
+      call = form 2 (1 ∷ 0 ∷ 1 ∷ 1 ∷ 2 ∷ 0 ∷ 0 ∷ 3 ∷ []);
+      gives = record { said = checked (Refused (Form 7)); table = []; js = []; us = []; vs = []; ws = [] };
+    }
+    -- case D, what the program prints
+    ∷ record {
+      call = print (1 ∷ 0 ∷ 1 ∷ 1 ∷ 2 ∷ 0 ∷ 32 ∷ 0 ∷ 0 ∷ 0 ∷ 0 ∷ 0 ∷ 0 ∷ 0 ∷ 0 ∷ 0 ∷ 0 ∷ 0 ∷ 4 ∷ 0 ∷ 0 ∷ 0 ∷ 0 ∷ 0 ∷ 0 ∷ 0 ∷ 7 ∷ 0 ∷ 0 ∷ 0 ∷ 0 ∷ 0 ∷ 0 ∷ 0 ∷ 11 ∷ 0 ∷ 0 ∷ 0 ∷ 0 ∷ []);
+      gives = record { said = bytes (115 ∷ 105 ∷ 110 ∷ 107 ∷ 115 ∷ 32 ∷ 52 ∷ 32 ∷ 119 ∷ 105 ∷ 114 ∷ 101 ∷ 32 ∷ 51 ∷ 48 ∷ 32 ∷ 112 ∷ 114 ∷ 111 ∷ 118 ∷ 101 ∷ 110 ∷ 10 ∷ 40 ∷ 40 ∷ 48 ∷ 32 ∷ 49 ∷ 41 ∷ 32 ∷ 40 ∷ 50 ∷ 32 ∷ 51 ∷ 41 ∷ 41 ∷ 10 ∷ 48 ∷ 32 ∷ 48 ∷ 32 ∷ 48 ∷ 32 ∷ 52 ∷ 32 ∷ 52 ∷ 10 ∷ 49 ∷ 32 ∷ 56 ∷ 32 ∷ 56 ∷ 32 ∷ 52 ∷ 32 ∷ 52 ∷ 10 ∷ 50 ∷ 32 ∷ 49 ∷ 52 ∷ 32 ∷ 49 ∷ 52 ∷ 32 ∷ 52 ∷ 32 ∷ 53 ∷ 10 ∷ 51 ∷ 32 ∷ 50 ∷ 50 ∷ 32 ∷ 50 ∷ 50 ∷ 32 ∷ 52 ∷ 32 ∷ 53 ∷ 10 ∷ 52 ∷ 32 ∷ 52 ∷ 32 ∷ 52 ∷ 32 ∷ 55 ∷ 32 ∷ 54 ∷ 10 ∷ 53 ∷ 32 ∷ 49 ∷ 56 ∷ 32 ∷ 49 ∷ 56 ∷ 32 ∷ 55 ∷ 32 ∷ 54 ∷ 10 ∷ 54 ∷ 32 ∷ 49 ∷ 49 ∷ 32 ∷ 49 ∷ 49 ∷ 32 ∷ 48 ∷ 32 ∷ 45 ∷ 10 ∷ []); table = []; js = []; us = []; vs = []; ws = [] };
+    }
+    -- one sink
+    ∷ record {
+      call = print (1 ∷ 0 ∷ 1 ∷ 1 ∷ 2 ∷ 0 ∷ 8 ∷ 0 ∷ 0 ∷ 0 ∷ 3 ∷ 255 ∷ 255 ∷ 255 ∷ 251 ∷ []);
+      gives = record { said = bytes (115 ∷ 105 ∷ 110 ∷ 107 ∷ 115 ∷ 32 ∷ 49 ∷ 32 ∷ 119 ∷ 105 ∷ 114 ∷ 101 ∷ 32 ∷ 48 ∷ 32 ∷ 112 ∷ 114 ∷ 111 ∷ 118 ∷ 101 ∷ 110 ∷ 10 ∷ 48 ∷ 10 ∷ 48 ∷ 32 ∷ 45 ∷ 52 ∷ 32 ∷ 49 ∷ 54 ∷ 32 ∷ 48 ∷ 32 ∷ 45 ∷ 10 ∷ []); table = []; js = []; us = []; vs = []; ws = [] };
+    }
+    -- a refusal without a place
+    ∷ record {
+      call = print (1 ∷ 0 ∷ 1 ∷ 1 ∷ 2 ∷ 0 ∷ 0 ∷ []);
+      gives = record { said = bytes (114 ∷ 101 ∷ 102 ∷ 117 ∷ 115 ∷ 101 ∷ 100 ∷ 32 ∷ 50 ∷ 10 ∷ []); table = []; js = []; us = []; vs = []; ws = [] };
+    }
+    -- place 0 is a place
+    ∷ record {
+      call = print [];
+      gives = record { said = bytes (114 ∷ 101 ∷ 102 ∷ 117 ∷ 115 ∷ 101 ∷ 100 ∷ 32 ∷ 56 ∷ 32 ∷ 48 ∷ 10 ∷ []); table = []; js = []; us = []; vs = []; ws = [] };
+    }
     ∷ []
 
 unfoldable pub called : Row → Outcome
@@ -200,5 +304,5 @@ unfoldable pub given : Row → Outcome
 given r = r .gives
 
 pub table-holds : map called table ≡ map given table
-unfolding table called given outcome checkSinks checkJoins checkOrder answer climb node parent greatest least diameter sinksOf nearest.best nearest.joins nearest.order checkNearest rising keep sinksIn diam isPart splits stepsOf steps blanks tableAfter firstOr keptPart keptIn joinCount nodeIn pairsOf checkRooms checkSearch joinsFound foundBy trailingZeros ones onesIn
+unfolding table called given outcome checkSinks checkJoins checkOrder answer climb node parent greatest least diameter sinksOf nearest.best nearest.joins nearest.order checkNearest rising keep sinksIn diam isPart splits stepsOf steps blanks tableAfter firstOr keptPart keptIn joinCount nodeIn pairsOf checkRooms checkSearch joinsFound foundBy big numberAt field records places firsts seconds sinkFile bodyAt fieldAt formFrom past checkSinkFile brackets digits decimal signed firstLine secondLine parentField nodeLine nodeLines treeText refusalLine program.joinsOf program.linesOf program.answerText program.textOf trailingZeros ones onesIn
 table-holds = refl

@@ -15,4 +15,3 @@ pub mod RoundTrip
 pub mod JoinsTrip
 pub mod TreeTrip
 pub mod Outcomes
-pub mod Examples

@@ -2,7 +2,7 @@
 use mathlib.Core.Path.{_≡_, refl, sym, ap, _∙_}
 use mathlib.Core.List.{List, [], _∷_}
 use mathlib.Core.Logic.{⊎-elim}
-use Prim.Native.Nat.{ℕ, _+_, _-_, _%_, _≤_, _<_}
+use Prim.Native.Nat.{ℕ, _+_, _%_, _≤_, _<_}
 use native.Mathlib.Omega.{arith}
 use borrow.Author.Tests.{eq-eqb, eqb-true, not-false}
 use lib.Dec.{T, eqb}
@@ -32,14 +32,14 @@ fits-range : (x : ℤ) → T (inRange x) → SFits w32 x
 fits-range (pos n) t = record { sfits = omega (arith, lift-range (pos n) t) }
 fits-range (negsuc n) t = record { sfits = omega (arith, lift-range (negsuc n) t) }
 
-wide : (xs : List ℤ) → ((i : ℕ) → i < length xs → T (inRange (getD xs i (pos 0)))) → Wide xs
-wide xs h = record { fits = λ i. ⊎-elim (λ l. fits-range _ (h i l)) (λ l. rw (List·getD-eq-default xs (pos 0) {n = i} l) (record { sfits = omega arith })) (or-lt i (length xs)) }
+pub wide : (xs : List ℤ) → ((i : ℕ) → i < length xs → SFits w32 (getD xs i (pos 0))) → Wide xs
+wide xs h = record { fits = λ i. ⊎-elim (h i) (λ l. rw (List·getD-eq-default xs (pos 0) {n = i} l) (record { sfits = omega arith })) (or-lt i (length xs)) }
 
 pub wide-x : (xs ys : List ℤ) → Ranged xs ys → Wide xs
-wide-x xs ys r = wide xs (λ i h. in-both xs ys r i h .0)
+wide-x xs ys r = wide xs (λ i h. fits-range _ (in-both xs ys r i h .0))
 
 pub wide-y : (xs ys : List ℤ) → Ranged xs ys → Wide ys
-wide-y xs ys r = wide ys (λ i h. in-both xs ys r i (rw (r .alike) h) .1)
+wide-y xs ys r = wide ys (λ i h. fits-range _ (in-both xs ys r i (rw (r .alike) h) .1))
 
 pub fair-version : Fair 1 version
 fair-version = record { long = refl; small = omega arith; version = λ rest. refl }

@@ -3,7 +3,7 @@ use mathlib.Core.Path.{_≡_, refl, sym, ap, _∙_}
 use mathlib.Core.Bool.{Bool, true, false, not, _&&_}
 use mathlib.Core.List.{List, [], _∷_}
 use mathlib.Core.Logic.{⊎-elim}
-use Prim.Native.Nat.{ℕ, _+_, _-_, _%_, _≤_, _<_}
+use Prim.Native.Nat.{ℕ, _+_, _%_, _≤_, _<_}
 use native.Mathlib.Omega.{arith}
 use borrow.Author.Tests.{eq-eqb, eqb-true, not-false, ltb-false}
 use lib.Dec.{T, eqb, ltb, eqb→eq}
@@ -20,15 +20,16 @@ use Rattle.plane.specs.declared.refusal.Checked.the-variants.{Fine}
 use Rattle.plane.proofs.Checks.{passed}
 use Rattle.embedding.specs.Embedding.{placesU, placesV, wires, checkOrder}
 use Rattle.embedding.proofs.Accepted.{both-pass, order-sound}
+use Rattle.embedding.proofs.Fits.{places-u-fit, places-v-fit, wires-bounded}
 use Rattle.house.specs.Bytes.{Bytes}
 use Rattle.house.specs.Fields.{fields, version, places, numbers, firsts, seconds, numbersIn}
 use Rattle.house.specs.Files.{treeFile}
 use Rattle.house.specs.Form.{lengthAt, valueAt, valueOf, past, form}
 use Rattle.house.specs.Reading.{xsIn, ysIn, joinsIn, unlike, checkNodes, checkTags, checkTreeFile}
-use Rattle.house.proofs.Values.{Wide, length-places, length-numbers, length-firsts, length-seconds, firsts-back, seconds-back, numbers-back, places-back, numbers-made}
+use Rattle.house.proofs.Values.{length-places, length-numbers, length-firsts, length-seconds, firsts-back, seconds-back, numbers-back, places-back, numbers-made}
 use Rattle.house.proofs.Standing.{Stands, Whole, more, whole}
 use Rattle.house.proofs.Fieldwise.{values, Fair, none, also, written-form, made, part-bytes, value-long}
-use Rattle.house.proofs.RoundTrip.{wide-x, wide-y, fair-version, fair-sinks, version-back, sinks-value}
+use Rattle.house.proofs.RoundTrip.{wide, wide-x, wide-y, fair-version, fair-sinks, version-back, sinks-value}
 use Rattle.house.proofs.JoinsTrip.{small-nodes, fair-nodes, nodes-value}
 use Rattle.house.proofs.TreeAnswers.{nodes-alike, length-U, length-V, length-wires}
 
@@ -141,12 +142,6 @@ nodes-fine us vs ws w = sym (nodes-alike us vs ws us vs ws refl (sym w) refl (�
         let n = alike (first (unlike us vs ws us vs ws) 0 (length us)) in
         let z : _≡_ {A = ℕ} 0 1 = cc in omega arith
 
--- what embedding gives fits its bytes
-pub record Fitting (xs ys : List ℤ) (js : List ℕ) : Type 0 where
-  pub wide-u : Wide (placesU (sinksAt xs ys) js)
-  pub wide-v : Wide (placesV (sinksAt xs ys) js)
-  pub small-w : (k : ℕ) → k < length (wires (sinksAt xs ys) js) → getD (wires (sinksAt xs ys) js) k 0 < 4294967296
-
 fair-places : (us vs : List ℤ) → length us ≤ 1023 → Fair 4 (places us vs)
 fair-places us vs h =
     let l = length-places us vs in
@@ -163,9 +158,9 @@ pub record TreeBack (xs ys : List ℤ) (js : List ℕ) : Type 0 where
   pub same-y : ysIn (treeFile xs ys js) ≡ ys
   pub same-j : joinsIn (treeFile xs ys js) ≡ js
 
-pub tree-back : (xs ys : List ℤ) (js : List ℕ) → checkOrder xs ys js ≡ Fine → Fitting xs ys js → TreeBack xs ys js
+pub tree-back : (xs ys : List ℤ) (js : List ℕ) → checkOrder xs ys js ≡ Fine → TreeBack xs ys js
 unfolding treeFile checkTreeFile checkTags past
-tree-back xs ys js q fit =
+tree-back xs ys js q =
     let s = order-sound xs ys js q in
     let o = s .joins in
     let few = o .few in
@@ -184,7 +179,7 @@ tree-back xs ys js q fit =
     let x = ap firsts e2 ∙ firsts-back xs ys (wide-x xs ys (s .sinks)) in
     let y = ap seconds e2 ∙ seconds-back xs ys (wide-y xs ys (s .sinks)) (s .sinks .alike) in
     let j = ap (numbersIn 2) e3 ∙ numbers-back 2 js (omega arith) (small-nodes (length xs) js o) in
-    let u = ap firsts e4 ∙ firsts-back us vs (fit .wide-u) in
-    let v = ap seconds e4 ∙ seconds-back us vs (fit .wide-v) (lu ∙ sym lv) in
-    let w = ap (numbersIn 4) e5 ∙ numbers-back 4 ws (omega arith) (fit .small-w) in
+    let u = ap firsts e4 ∙ firsts-back us vs (wide us (places-u-fit xs ys js s)) in
+    let v = ap seconds e4 ∙ seconds-back us vs (wide vs (places-v-fit xs ys js s)) (lu ∙ sym lv) in
+    let w = ap (numbersIn 4) e5 ∙ numbers-back 4 ws (omega arith) (λ k h. omega (arith, wires-bounded xs ys js s k h)) in
     record { checked = rw (a, x, y, j, q, u, v, w) (nodes-fine us vs ws (lu ∙ sym lw)); same-x = x; same-y = y; same-j = j }

@@ -11,7 +11,7 @@ use mir.Facts.{toZ-ofZ, ofZ-toZ, fits-ofZ}
 use mir.Syntax.{w32}
 use mir.Val.{SFits}
 use Rattle.lists.specs.Grow.{tab}
-use Rattle.lists.proofs.Grow.{length-grow, grow-at, tab-at, tab-same}
+use Rattle.lists.proofs.Grow.{length-grow, tab-at, tab-same, getD-tab}
 use Rattle.house.specs.Bytes.{big, numberAt, bits, signed, Bytes}
 use Rattle.house.specs.Fields.{place, places, numbers, firsts, seconds, numbersIn}
 use Rattle.house.proofs.BigEndian.{length-big, number-in, number-big, big-number, number-fits}
@@ -26,9 +26,6 @@ module _ {A : Type 0} where
 
   pub tab-list : (l : List A) (d : A) → tab (λ i. getD l i d) (length l) ≡ l
   tab-list l d = tab-take l d (length l) (omega arith) ∙ take-length l
-
-  pub getD-tab : (f : ℕ → A) (n i : ℕ) (d : A) → i < n → getD (tab f n) i d ≡ f i
-  getD-tab f n i d h = grow-at (λ l. f (length l)) n i d h ∙ tab-at f i
 
 -- ---- places
 pub length-place : (xs ys : List ℤ) (i : ℕ) → length (place xs ys i) ≡ 8

@@ -9,12 +9,12 @@ use lib.ListN.{length, getD}
 use Rattle.lists.specs.First.{first}
 use Rattle.lists.specs.Grow.{front}
 use Rattle.plane.specs.Range.{equal}
-use Rattle.plane.specs.Refusals.{refuseIf}
+use Rattle.plane.specs.Refusals.{refuseIf, andThen}
 use Rattle.plane.specs.Sinks.{sinksAt, checkSinks}
 use Rattle.plane.specs.declared.refusal.Refusal.the-variants.{Tags, Unlike}
 use Rattle.plane.specs.declared.refusal.Checked.{Checked}
 use Rattle.plane.specs.declared.refusal.Checked.the-variants.{Fine, Refused}
-use Rattle.embedding.specs.Embedding.{placesU, placesV, wires, andThen, checkOrder}
+use Rattle.embedding.specs.Embedding.{placesU, placesV, wires, checkOrder}
 use Rattle.house.specs.declared.answer.Reading.{Reading}
 use Rattle.house.specs.declared.answer.Reading.the-variants.{Sinks, NotRead}
 use Rattle.house.specs.Fields.{firsts, seconds, numbersIn}

@@ -5,11 +5,10 @@ use Prim.Native.Nat.{ℕ}
 use lib.Dec.{ltb}
 use lib.ListN.{length}
 use Rattle.lists.specs.Grow.{front}
-use Rattle.plane.specs.Refusals.{refuseIf}
+use Rattle.plane.specs.Refusals.{refuseIf, andThen}
 use Rattle.plane.specs.declared.refusal.Refusal.the-variants.{Room}
 use Rattle.plane.specs.declared.refusal.Checked.{Checked}
 use Rattle.plane.specs.declared.refusal.Checked.the-variants.{Fine, Refused}
-use Rattle.embedding.specs.Embedding.{andThen}
 use Rattle.house.specs.declared.answer.Written.{Written}
 use Rattle.house.specs.declared.answer.Written.the-variants.{Bytes, NotWritten}
 

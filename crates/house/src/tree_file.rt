@@ -24,6 +24,7 @@ use embedding::check;
 use embedding::embed;
 use plane::refusal::Checked;
 use plane::refusal::Refusal;
+use plane::sinks;
 
 // The fields of tags 4 and 5, and the byte after them.
 fn put_tags(out: &mut [u8], at: usize, us: &[i32], vs: &[i32], ws: &[u32]) -> usize
@@ -62,18 +63,12 @@ pub fn write_tree(xs: &[i32], ys: &[i32], js: &[u16], out: &mut [u8]) -> Written
     Written::Bytes(put_tree(out, xs, ys, js))
 }
 
-fn same(a: i32, b: i32) -> bool
-    ensures { λ r. ⌜ r ≡ equal a b ⌝ }
-{
-    a == b
-}
-
 // Whether the number with sign at byte `at` is entry k of a list.
 fn same_at(v: &[u8], at: usize, us: &[i32], k: usize) -> bool
     requires { ⌜ (at + 4 ≤ length (now v)) × (k < length (now us)) ⌝ }
     ensures { λ r. ⌜ r ≡ equal (signed (numberAt 4 (now (v .entry)) at)) (getD (now (us .entry)) k (pos 0)) ⌝ }
 {
-    same(record::signed_at(v, at), us[k])
+    sinks::same(record::signed_at(v, at), us[k])
 }
 
 // Whether node k has another U, V or wire in the values of tags 4 and 5.

@@ -3,8 +3,7 @@ use mathlib.Core.Path.{_≡_, sym, ap, _∙_}
 use mathlib.Core.List.{List, [], _∷_, _++_}
 use Prim.Native.Nat.{ℕ, _+_, _-_, _*_, _≤_, _<_}
 use native.Mathlib.Omega.{arith}
-use lib.ListN.{length, getD}
-use Rattle.zero_skew.specs.Order.{Order, one, both}
+use lib.ListN.{getD}
 use Rattle.lines.specs.Decimal.{decimal}
 use Rattle.lines.specs.Brackets.{blank, brackets}
 use Rattle.embedding.specs.Nodes.{node}

@@ -8,7 +8,7 @@ use native.Mathlib.Omega.{arith}
 use borrow.Author.Tests.{lt-ltb, le-ltb, ltb-true, ltb-false}
 use lib.Dec.{ltb}
 use lib.ListN.{length, length-append}
-use Rattle.lines.specs.Decimal.{digit, digits, decimal, signed}
+use Rattle.lines.specs.Decimal.{digit, digits, decimal}
 
 tenth : (n : ℕ) → 10 ≤ n → n / 10 < n
 tenth n h = omega arith

@@ -1,15 +1,14 @@
 -- The last field of a node's line, and the lines of the first nodes.
-use mathlib.Core.Path.{_≡_, refl, ap}
+use mathlib.Core.Path.{_≡_, refl}
 use mathlib.Core.List.{List, [], _∷_, _++_}
-use Prim.Native.Nat.{ℕ, zero, suc, _+_, _-_, _*_, _≤_, _<_}
-use native.Mathlib.Omega.{arith}
+use Prim.Native.Nat.{ℕ, _+_, _-_, _*_}
 use native.Mathlib.Numerals.{add-one}
 use borrow.Author.Tests.{eq-eqb, ne-eqb}
 use lib.IntN.{ℤ, pos}
-use lib.ListN.{length, getD, length-append}
+use lib.ListN.{getD}
 use Rattle.lines.specs.Brackets.{blank}
 use Rattle.lines.specs.Decimal.{decimal, signed, minus}
-use Rattle.lines.specs.Lines.{feed, line, refused, placeField, refusalLine, parentField, nodeLine, nodeLines}
+use Rattle.lines.specs.Lines.{line, refused, placeField, refusalLine, parentField, nodeLine, nodeLines}
 use Rattle.lines.specs.Parts.{fromParent, placeEnd}
 use Rattle.plane.specs.Refusals.{number, place}
 use Rattle.plane.specs.declared.refusal.Refusal.{Refusal}

@@ -9,5 +9,4 @@ pub mod Fronts
 pub mod Searched
 pub mod ReadSinks
 pub mod Size
-pub mod CaseD
 pub mod Outcomes

@@ -1,7 +1,7 @@
 -- What a reader's answer says of the check of its file, where the buffers hold 512 sinks.
 use mathlib.Core.Path.{_≡_, refl, sym, ap, _∙_}
-use mathlib.Core.List.{List, _++_}
-use Prim.Native.Nat.{ℕ, _-_, _≤_, _<_}
+use mathlib.Core.List.{List}
+use Prim.Native.Nat.{ℕ, _-_, _≤_}
 use native.Mathlib.Omega.{arith}
 use borrow.Author.Tests.{le-ltb}
 use lib.IntN.{ℤ}
@@ -11,10 +11,9 @@ use Rattle.plane.specs.declared.refusal.Refusal.{Refusal}
 use Rattle.plane.specs.declared.refusal.Checked.{Checked}
 use Rattle.plane.specs.declared.refusal.Checked.the-variants.{Fine, Refused}
 use Rattle.plane.proofs.Checks.{accepted}
-use Rattle.embedding.specs.Embedding.{andThen}
+use Rattle.plane.specs.Refusals.{andThen}
 use Rattle.house.specs.Form.{form}
-use Rattle.house.specs.Reading.{checkSinkFile, xsIn, ysIn, readAfter, taken, ReadsSinks}
-use Rattle.house.specs.Writing.{roomFor}
+use Rattle.house.specs.Reading.{checkSinkFile, xsIn, ysIn, readAfter, ReadsSinks}
 use Rattle.house.specs.declared.answer.Reading.{Reading}
 use Rattle.house.specs.declared.answer.Reading.the-variants.{Sinks, NotRead}
 use Rattle.lines.specs.Parts.{Sinked}
@@ -30,9 +29,8 @@ sinks-fine f e = then-fine (form 2 f) (checkSinks 512 (xsIn f) (ysIn f)) e
 
 pub sinked : (f : List ℕ) → checkSinkFile f ≡ Fine → Sinked (xsIn f) (ysIn f)
 sinked f e =
-    let q = sinks-fine f e in
-    let a = accepted 512 (xsIn f) (ysIn f) q in
-    record { checked = q; ranged = a .ranged; some = a .some; few = a .few }
+    let a = accepted 512 (xsIn f) (ysIn f) (sinks-fine f e) in
+    record { ranged = a .ranged; some = a .some; few = a .few }
 
 module _ (f : List ℕ) {xs ys xs′ ys′ : List ℤ} {said : Reading} (m : ReadsSinks (checkSinkFile f) (xsIn f) (ysIn f) xs ys said xs′ ys′) (lx : length xs ≡ 512) (ly : length ys ≡ 512) where
   -- the answer without the rooms, which suffice

@@ -1,15 +1,14 @@
 -- Lists with the same entries give the same lines.
-use mathlib.Core.Path.{_≡_, refl, sym, ap, _∙_}
+use mathlib.Core.Path.{_≡_, refl, sym, _∙_}
 use mathlib.Core.Bool.{Bool, true, false}
-use mathlib.Core.List.{List, [], _∷_, _++_}
-use Prim.Native.Nat.{ℕ, zero, suc, _-_, _*_, _≤_, _<_}
+use mathlib.Core.List.{List, _++_}
+use Prim.Native.Nat.{ℕ, zero, suc, _-_, _*_, _<_}
 use native.Mathlib.Omega.{arith}
 use borrow.Author.Tests.{eqb-true, eqb-false}
 use lib.Dec.{eqb}
 use lib.IntN.{ℤ, pos}
-use lib.ListN.{length, getD}
-use Rattle.lists.specs.Grow.{tab}
-use Rattle.lists.proofs.Grow.{grow-at, tab-at}
+use lib.ListN.{getD}
+use Rattle.lists.proofs.Grow.{getD-tab}
 use Rattle.embedding.specs.Arrays.{Parents}
 use Rattle.embedding.specs.Nodes.{parent}
 use Rattle.lines.specs.Lines.{firstLine, secondLine, parents, parentField, nodeLine, nodeLines, treeText}
@@ -44,7 +43,7 @@ module _ (n : ℕ) (ps ps′ : List ℕ) (us us′ vs vs′ : List ℤ) (ws ws�
       rw (e, s .same-u m h, s .same-v m h, s .same-w m h, field-same m (s .same-p m h))
 
 parents-at : (n : ℕ) (js : List ℕ) (k : ℕ) → k < 2 * n - 2 → getD (parents n js) k 0 ≡ parent n js k
-parents-at n js k l = grow-at (λ (ps : List ℕ). parent n js (length ps)) (2 * n - 2) k 0 l ∙ tab-at (parent n js) k
+parents-at n js k l = getD-tab (parent n js) (2 * n - 2) k 0 l
 
 -- the parents that the code has worked out
 pub parents-same : (n : ℕ) (js ps : List ℕ) → Parents n js ps → (k : ℕ) → k < 2 * n - 1 → (k ≡ 2 * n - 2 → ⊥) → getD ps k 0 ≡ getD (parents n js) k 0

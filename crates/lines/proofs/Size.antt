@@ -12,7 +12,6 @@ use Rattle.embedding.specs.Sound.{Ordered}
 use Rattle.embedding.proofs.Joined.{root-has}
 use Rattle.embedding.proofs.Orders.{node-join}
 use Rattle.lines.specs.Brackets.{blank, brackets}
-use Rattle.lines.specs.Decimal.{decimal}
 use Rattle.lines.specs.Lines.{feed, mark, firstLine, secondLine}
 use Rattle.lines.proofs.Children.{around, sink-text}
 use Rattle.lines.proofs.Decimal.{decimal-length}

@@ -1,12 +1,10 @@
 -- For the code alone: what the lines of the nodes are written from, and the end of a refusal.
-use mathlib.Core.Path.{_≡_}
 use mathlib.Core.List.{List, [], _∷_, _++_}
 use Prim.Native.Nat.{ℕ, _-_, _*_, _≤_, _<_}
 use lib.IntN.{ℤ}
 use lib.ListN.{length, getD}
 use Rattle.embedding.specs.Sound.{Ordered}
-use Rattle.plane.specs.Sinks.{checkSinks, Ranged}
-use Rattle.plane.specs.declared.refusal.Checked.the-variants.{Fine}
+use Rattle.plane.specs.Sinks.{Ranged}
 use Rattle.plane.specs.declared.refusal.Place.{Place}
 use Rattle.plane.specs.declared.refusal.Place.the-variants.{None, At}
 use Rattle.lines.specs.Decimal.{decimal}
@@ -45,7 +43,6 @@ placeEnd (At i) = blank ∷ decimal i ++ (feed ∷ [])
 
 -- sinks that were checked
 pub record Sinked (xs ys : List ℤ) : Type 0 where
-  pub checked : checkSinks 512 xs ys ≡ Fine
   pub ranged : Ranged xs ys
   pub some : 0 < length xs
   pub few : length xs ≤ 512

@@ -1,9 +1,8 @@
 // The program's answer to a sink file.
-ghost use mathlib.Core.Path.{_≡_};
 ghost use mathlib.Core.Bool.{true, false};
 ghost use Prim.Native.Nat.{_≤_};
 ghost use lib.ListN.{length};
-ghost use Rattle.plane.specs.Sinks.{sinksAt, checkSinks};
+ghost use Rattle.plane.specs.Sinks.{sinksAt};
 ghost use Rattle.nearest.specs.Calls.{orderAt};
 ghost use Rattle.search.specs.Best.{stepCount};
 ghost use Rattle.search.specs.Searching.{joinsFound};
@@ -16,7 +15,6 @@ use house::answer::Reading;
 use house::sink_file;
 use nearest::tree;
 use search::search as exact;
-use search::search::Searched;
 use search::subset;
 
 // The lines of the tree of joining by least diameter.
@@ -45,7 +43,7 @@ fn proven_lines(xs: &[i32], ys: &[i32], out: &mut [u8]) -> usize
     let mut us = [0i32; 23];
     let mut vs = [0i32; 23];
     let mut ws = [0u32; 23];
-    let said = exact::search(
+    let found = exact::search_sound(
         xs,
         ys,
         subset::all_steps(n),
@@ -55,10 +53,6 @@ fn proven_lines(xs: &[i32], ys: &[i32], out: &mut [u8]) -> usize
         &mut vs,
         &mut ws,
     );
-    // Sinks that were checked are not refused.
-    let Searched::Tree(found) = said else {
-        return 0;
-    };
     let end = 2 * (n - 1);
     whole::tree_text(out, &js[0..end], &us, &vs, &ws, n, found.total, true)
 }

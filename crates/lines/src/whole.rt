@@ -9,7 +9,7 @@ ghost use Rattle.lines.specs.Printed.{Printed};
 ghost use Rattle.lines.specs.Written.{Written};
 use crate::brackets;
 use crate::line;
-use embedding::joins;
+use embedding::nodes;
 
 // The lines of a tree with the pairs js, the parents ps, the places us and vs and the wires ws.
 fn lines_of(
@@ -31,21 +31,6 @@ fn lines_of(
     line::node_lines(out, b, ps, us, vs, ws, n)
 }
 
-// The parent of each node but the root, from the pairs.
-fn parents(js: &[u16], n: usize) -> [usize; 1023]
-    requires { ⌜ Ordered n (now js) ⌝ }
-    ensures { λ r. ⌜ Parents n (now (js .entry)) r ⌝ }
-{
-    let mut ps = [0usize; 1023];
-    let mut j = 0;
-    while j < js.len() {
-        let k = joins::entry(js, j);
-        ps[k] = n + j / 2;
-        j += 1;
-    }
-    ps
-}
-
 // The lines of a tree, from the front of a buffer that holds every answer.
 pub fn tree_text(
     out: &mut [u8],
@@ -60,6 +45,6 @@ pub fn tree_text(
     requires { ⌜ Grown n (now js) (now us) (now vs) (now ws) × (49152 ≤ length (now out)) ⌝ }
     ensures { λ r. ⌜ Printed (treeText n total proven (now (js .entry)) (now (us .entry)) (now (vs .entry)) (now (ws .entry))) (now (out .entry)) r (now (out .exit)) ⌝ }
 {
-    let ps = parents(js, n);
+    let ps = nodes::parents(js, n);
     lines_of(out, js, &ps, us, vs, ws, n, total, proven)
 }

@@ -7,8 +7,8 @@ use native.Mathlib.Omega.{arith}
 use mathlib.Core.Bool.{Bool, true, false}
 use borrow.Author.Tests.{ltb-true, ltb-false, eqb-true, eqb-false}
 use lib.Dec.{ltb, eqb}
-use lib.ListN.{length, getD, take, drop, set, length-append, length-set, List·getD-append}
-use lib.Seq.{take-suc-set, getD-take, drop-cons, set-at, getD-at, getD-set-same, getD-set-other}
+use lib.ListN.{length, getD, drop, set, length-append, length-set, List·getD-append}
+use lib.Seq.{drop-cons, set-at, getD-at, getD-set-same, getD-set-other}
 use Rattle.lists.specs.Grow.{grow, front, tab, sumTo, upTo}
 
 module _ {A : Type 0} where
@@ -18,40 +18,11 @@ module _ {A : Type 0} where
       let h = length-grow f k in
       simp length-append (omega (arith, length-grow f k))
 
-  -- the first k entries of l are made
-  pub record Grown (f : List A → A) (k : ℕ) (l : List A) : Type 0 where
-    pub made : take k l ≡ grow f k
-    pub held : k ≤ length l
-
-  pub grown-begin : {f : List A → A} {l : List A} → Grown f 0 l
-  grown-begin {f} {l} = record { made = refl; held = omega arith }
-
-  pub grown-more : {f : List A → A} {k : ℕ} {l : List A} (v : A) → Grown f k l → k < length l → v ≡ f (grow f k) → Grown f (k + 1) (set l k v)
-  grown-more {f} {k} {l} v g h e =
-      record {
-        made = rw (add-one, take-suc-set l k v, g .made, e);
-        held = simp length-set (omega arith);
-      }
-
   -- within a list, what stands for an entry that is not there does not matter
   pub getD-any : (l : List A) (i : ℕ) (d e : A) → i < length l → getD l i d ≡ getD l i e
   getD-any [] i d e h = let b : ⊥ = omega arith in absurd b
   getD-any (x ∷ l) zero d e h = refl
   getD-any (x ∷ l) (suc i) d e h = getD-any l i d e (omega arith)
-
-  pub grown-at : {f : List A → A} {k : ℕ} {l : List A} (i : ℕ) (d e : A) → Grown f k l → i < k → getD l i d ≡ getD (grow f k) i e
-  grown-at {f} {k} {l} i d e g h =
-      getD-any l i d e (omega (arith, g .held)) ∙ sym (getD-take k l i e h) ∙ rw (g .made)
-
-  -- a whole array and its part that is made have the same entries
-  pub part-at : (m : ℕ) (l : List A) (i : ℕ) (d e : A) → length (take m l) ≡ m → i < m → getD l i d ≡ getD (take m l) i e
-  part-at m l i d e q h = sym (getD-take m l i d h) ∙ getD-any (take m l) i d e (rw q h)
-
-  pub grown-one : {f : List A → A} {l : List A} (v : A) → v ≡ f [] → Grown f 1 (v ∷ l)
-  grown-one {f} {l} v e = record { made = ap (λ (a : A). a ∷ []) e; held = omega arith }
-
-  pub grown-done : {f : List A → A} {k : ℕ} {l : List A} (m : ℕ) → Grown f k l → k ≡ m → take m l ≡ grow f m
-  grown-done {f} {k} {l} m g e = rw (sym e) (g .made)
 
   -- a buffer whose first k entries are written
   pub record Filled (f : List A → A) (k : ℕ) (old l : List A) : Type 0 where
@@ -94,6 +65,9 @@ module _ {A : Type 0} where
       go false e r =
           let q : k ≡ m = omega (arith, ltb-false k m e) in
           rw q (getD-at (grow f m) (f (grow f m)) [] d m (length-grow f m))
+
+  pub getD-tab : (g : ℕ → A) (m k : ℕ) (d : A) → k < m → getD (tab g m) k d ≡ g k
+  getD-tab g m k d h = grow-at (λ l. g (length l)) m k d h ∙ tab-at g k
 
   pub grow-low : (f : List A → A) (m k a : ℕ) (d e : A) → a < k → k ≤ m → getD (grow f m) a d ≡ getD (grow f k) a e
   grow-low f m k a d e h l = grow-at f m a d (omega arith) ∙ sym (grow-at f k a e h)

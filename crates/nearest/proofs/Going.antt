@@ -11,7 +11,7 @@ use lib.IntN.{ℤ}
 use lib.ListN.{length, getD, take, drop, set, length-set, take-append-drop, List·getD-append}
 use lib.Seq.{take-suc-set, drop-set-lt, drop-drop, getD-at, length-take-le}
 use Rattle.lists.specs.Grow.{front, upTo}
-use Rattle.lists.proofs.Grow.{grow-at, tab-at}
+use Rattle.lists.proofs.Grow.{getD-tab}
 use Rattle.zero_skew.specs.Plane.{Sinks}
 use Rattle.plane.specs.Boxes.{hullOf}
 use Rattle.plane.specs.Covers.{Covers}
@@ -61,7 +61,7 @@ held-turn {s} {m} {sets} {bs} {bs′} p v e h g w =
     }
 
 alone-at : (n k : ℕ) → k < n → getD (alone n) k [] ≡ k ∷ []
-alone-at n k h = grow-at (λ l. length l ∷ []) n k [] h ∙ tab-at (λ i. i ∷ []) k
+alone-at n k h = getD-tab (λ i. i ∷ []) n k [] h
 
 pub held-begin : {xs ys : List ℤ} (n : ℕ) {bs : List ℕ} → Sinked xs ys n bs → Held (sinksAt xs ys) n (alone n) bs
 held-begin n v = record { full = λ k h. rw (alone-at n k h) (omega arith); covers = λ k h. rw (alone-at n k h) (v .covers k h) }

@@ -8,7 +8,8 @@ use lib.ListN.{length}
 use Rattle.plane.specs.Sinks.{sinksAt}
 use Rattle.plane.specs.declared.refusal.Checked.{Checked}
 use Rattle.plane.specs.declared.refusal.Checked.the-variants.{Fine, Refused}
-use Rattle.embedding.specs.Embedding.{andThen, checkOrder, checkRoom, treeAfter, total, answer}
+use Rattle.embedding.specs.Embedding.{checkOrder, checkRoom, treeAfter, total, answer}
+use Rattle.plane.specs.Refusals.{andThen}
 use Rattle.embedding.specs.Permitted.{Permitted}
 use Rattle.embedding.specs.Described.{Level}
 use Rattle.embedding.specs.declared.embed.Embedded.the-variants.{Tree}

@@ -6,12 +6,12 @@ use lib.Dec.{ltb}
 use lib.IntN.{ℤ}
 use lib.ListN.{length}
 use Rattle.lists.specs.Grow.{front}
-use Rattle.plane.specs.Refusals.{refuseIf}
+use Rattle.plane.specs.Refusals.{refuseIf, andThen}
 use Rattle.plane.specs.Sinks.{sinksAt, checkSinks}
 use Rattle.plane.specs.declared.refusal.Refusal.the-variants.{Room}
 use Rattle.plane.specs.declared.refusal.Checked.{Checked}
 use Rattle.plane.specs.declared.refusal.Checked.the-variants.{Fine, Refused}
-use Rattle.embedding.specs.Embedding.{placesU, placesV, wires, total, andThen, checkRoom, treeAfter, written}
+use Rattle.embedding.specs.Embedding.{placesU, placesV, wires, total, checkRoom, treeAfter, written}
 use Rattle.embedding.specs.declared.embed.Embedded.{Embedded}
 use Rattle.nearest.specs.declared.order.Joined.{Joined}
 use Rattle.nearest.specs.declared.order.Joined.the-variants.{Order, NoOrder}

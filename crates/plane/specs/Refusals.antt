@@ -6,7 +6,7 @@ use Rattle.plane.specs.declared.refusal.Refusal.the-variants.{Lists, NoS
 use Rattle.plane.specs.declared.refusal.Place.{Place}
 use Rattle.plane.specs.declared.refusal.Place.the-variants.{None, At}
 use Rattle.plane.specs.declared.refusal.Checked.{Checked}
-use Rattle.plane.specs.declared.refusal.Checked.the-variants.{Refused}
+use Rattle.plane.specs.declared.refusal.Checked.the-variants.{Fine, Refused}
 
 abbrev pub number : Refusal → ℕ
 number Lists = 1
@@ -35,3 +35,8 @@ place (Unlike i) = At i
 -- one line of a check: refused where the condition holds, else what the lines after it say
 abbrev pub refuseIf : Bool → Refusal → Checked → Checked
 refuseIf condition r next = cond condition (Refused r) next
+
+-- one check, then another
+abbrev pub andThen : Checked → Checked → Checked
+andThen Fine next = next
+andThen (Refused r) next = Refused r

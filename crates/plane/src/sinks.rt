@@ -9,7 +9,7 @@ use crate::measure;
 use crate::refusal::Checked;
 use crate::refusal::Refusal;
 
-fn same(a: i32, b: i32) -> bool
+pub fn same(a: i32, b: i32) -> bool
     ensures { λ r. ⌜ r ≡ equal a b ⌝ }
 {
     a == b

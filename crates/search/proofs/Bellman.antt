@@ -74,9 +74,6 @@ small-blank (suc (suc c)) g = absurd (omega arith)
 -- ---- Bellman's two facts
 
 module _ (δ : ℕ → ℕ) (b : ℕ) (small : b ≤ 2 ^ 12) (t : List ℕ) (done : Finished δ b t) where
-  fits : (s : ℕ) → s < b → s < 2 ^ 12
-  fits s h = le-trans h small
-
   -- no split comes to less than the entry
   pub best-le : (s a : ℕ) → s < b → a < s → isPart s a ≡ true → getD t s 0 ≤ costOf δ t s a
   best-le s a h l e =
@@ -96,23 +93,17 @@ module _ (δ : ℕ → ℕ) (b : ℕ) (small : b ≤ 2 ^ 12) (t : List ℕ) (don
   bound zero s l h k = absurd (omega arith)
   bound (suc f) s l h k = go (λ x. bound f x) (decLt (ones s) 2)
     where
-      k12 : s < 2 ^ 12
-      k12 = le-trans k small
-
-      k32 : s < 2 ^ 32
-      k32 = omega (arith, k12)
-
       go : ((x : ℕ) → x ≤ f → 0 < x → x < b → getD t x 0 + D ≤ ones x * D) → Dec (ones s < 2) → getD t s 0 + D ≤ ones s * D
       go ih (yes w) =
-          let o : ones s ≡ 1 = omega (arith, ones-pos s h k32) in
+          let o : ones s ≡ 1 = omega (arith, ones-pos s h) in
           let z : getD t s 0 ≤ blank (ones s) = subst (λ (x : ℕ). x ≤ blank (ones s)) (sym (done .entry s h k)) (least-le (δ s) t s (blankOf s) (splits s)) in
           let y : blank (ones s) ≡ 0 = ap blank o in
           subst (λ (x : ℕ). getD t s 0 + D ≤ x * D) (sym o) (omega arith)
       go ih (no w) =
           let o : 2 ≤ ones s = omega arith in
-          let p : Part s (2 ^ lowest s) = low-part s h k32 o in
+          let p : Part s (2 ^ lowest s) = low-part s h o in
           let e : s - (s - 2 ^ lowest s) ≡ 2 ^ lowest s = omega (arith, p .1) in
-          let i : isPart s (2 ^ lowest s) ≡ true = ap (isPart s) (sym e) ∙ is-part s h k32 (s - 2 ^ lowest s) (and-self (s - 2 ^ lowest s)) in
+          let i : isPart s (2 ^ lowest s) ≡ true = ap (isPart s) (sym e) ∙ is-part s h (s - 2 ^ lowest s) (and-self (s - 2 ^ lowest s)) in
           omega (
             arith,
             best-le δ b small t done s (2 ^ lowest s) k (p .1) i,

@@ -1,13 +1,13 @@
 -- How many steps n sinks have.
 use mathlib.Core.Path.{_≡_, refl, sym, ap, ap₂, _∙_}
 use mathlib.Core.List.{map}
-use Prim.Native.Nat.{ℕ, zero, suc, _+_, _-_, _*_, _/_, _%_, _^_, _≤_, _<_}
+use Prim.Native.Nat.{ℕ, zero, suc, _+_, _-_, _*_, _/_, _%_, _^_, _<_}
 use native.Mathlib.Nat.{pow-succ', zero-add}
 use native.Mathlib.Numerals.{one-add}
 use native.Mathlib.Omega.{arith}
 use lib.ListN.{length, length-append, length-map}
 use lib.Count.{ones, ones-step}
-use lib.Pow.{pow-mono, pow-pos}
+use lib.Pow.{pow-pos}
 use Rattle.search.specs.Best.{stepCount}
 use Rattle.search.specs.Subsets.{rising, splits}
 use Rattle.search.specs.Table.{pairUp, steps, stepsOf}
@@ -48,23 +48,22 @@ unfolding total weight ones
 total-pow zero = refl
 total-pow (suc n) = ap total (pow-succ' 2 n) ∙ total-double (2 ^ n) ∙ ap (λ (x : ℕ). 3 * x) (total-pow n) ∙ sym (pow-succ' 3 n)
 
-total-more : (k i : ℕ) → 0 < i → i + k ≤ 2 ^ 32 → total i + 2 * (length (stepsOf (rising k i)) + k) ≡ total (i + k)
+total-more : (k i : ℕ) → 0 < i → total i + 2 * (length (stepsOf (rising k i)) + k) ≡ total (i + k)
 unfolding stepsOf rising total weight
-total-more zero i h l = omega (arith, ap total (let e : i + 0 ≡ i = omega arith in e))
-total-more (suc k) i h l =
+total-more zero i h = omega (arith, ap total (let e : i + 0 ≡ i = omega arith in e))
+total-more (suc k) i h =
     omega (
       arith,
-      total-more k (suc i) (omega arith) (omega arith),
+      total-more k (suc i) (omega arith),
       ap total (let e : suc i + k ≡ i + suc k = omega arith in e),
-      splits-count i h (omega arith),
+      splits-count i h,
       length-append (map (pairUp i) (splits i)) (stepsOf (rising k (suc i))),
       length-map (splits i) (pairUp i),
     )
 
-pub steps-count : (n : ℕ) → n ≤ 32 → length (steps n) ≡ stepCount n
+pub steps-count : (n : ℕ) → length (steps n) ≡ stepCount n
 unfolding steps total weight ones
-steps-count n h =
-    let p : 2 ^ n ≤ 2 ^ 32 = pow-mono h in
+steps-count n =
     let o : 0 < 2 ^ n = pow-pos n in
     let m : total (1 + (2 ^ n - 1)) ≡ total (2 ^ n) = ap total (let e : 1 + (2 ^ n - 1) ≡ 2 ^ n = omega arith in e) in
-    omega (arith, total-more (2 ^ n - 1) 1 (omega arith) (omega arith), total-pow n)
+    omega (arith, total-more (2 ^ n - 1) 1 (omega arith), total-pow n)

@@ -99,6 +99,24 @@ pub tz-odd : (d s : ℕ) → s % 2 ≡ 1 → trailingZeros (suc d) s ≡ 0
 unfolding trailingZeros
 tz-odd d s e = ap (λ (b : ℕ). under b (trailingZeros d (s / 2))) e
 
+half-lt : (d s : ℕ) → s < 2 ^ suc d → s / 2 < 2 ^ d
+half-lt d s h = omega arith
+
+-- m digits are enough for m
+pub self-lt : (m : ℕ) → m < 2 ^ m
+self-lt zero = omega arith
+self-lt (suc m) = omega (arith, self-lt m, pow-succ' 2 m)
+
+-- and more of them make no difference
+pub tz-any : (d e s : ℕ) → 0 < s → s < 2 ^ d → s < 2 ^ e → trailingZeros d s ≡ trailingZeros e s
+tz-any zero e s h k l = absurd (omega arith)
+tz-any (suc d) zero s h k l = absurd (omega arith)
+tz-any (suc d) (suc e) s h k l = go (tz-any d e (s / 2)) (parity s)
+  where
+    go : (0 < s / 2 → s / 2 < 2 ^ d → s / 2 < 2 ^ e → trailingZeros d (s / 2) ≡ trailingZeros e (s / 2)) → (s % 2 ≡ 0) ⊎ (s % 2 ≡ 1) → trailingZeros (suc d) s ≡ trailingZeros (suc e) s
+    go ih (inl z) = tz-even d s z ∙ ap suc (ih (omega arith) (half-lt d s k) (half-lt e s l)) ∙ sym (tz-even e s z)
+    go ih (inr z) = tz-odd d s z ∙ sym (tz-odd e s z)
+
 -- the number with that sink alone
 abbrev pub low : ℕ → ℕ → ℕ
 low d s = 2 ^ trailingZeros d s
@@ -108,9 +126,6 @@ low-even d s e = ap (λ (t : ℕ). 2 ^ t) (tz-even d s e) ∙ pow-succ' 2 (trail
 
 pub low-odd : (d s : ℕ) → s % 2 ≡ 1 → low (suc d) s ≡ 1
 low-odd d s e = ap (λ (t : ℕ). 2 ^ t) (tz-odd d s e)
-
-half-lt : (d s : ℕ) → s < 2 ^ suc d → s / 2 < 2 ^ d
-half-lt d s h = omega arith
 
 pub low-le : (d s : ℕ) → 0 < s → s < 2 ^ d → low d s ≤ s
 low-le zero s h k = omega arith

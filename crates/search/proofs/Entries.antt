@@ -13,7 +13,7 @@ use lib.Pow.{pow-mono, pow-pos}
 use lib.Count.{ones, ones-le}
 use borrow.Author.Tests.{lt-ltb, le-ltb}
 use Rattle.lists.specs.Grow.{tab}
-use Rattle.lists.proofs.Grow.{length-grow, grow-at, tab-at}
+use Rattle.lists.proofs.Grow.{length-grow, getD-tab}
 use Rattle.search.specs.Best.{best, leastOf}
 use Rattle.search.specs.Entries.{entryAfter, examined, heldBy}
 use Rattle.search.specs.Subsets.{rising, splits}
@@ -40,23 +40,20 @@ module _ (δ : ℕ → ℕ) (n k : ℕ) (few : n ≤ 12) (D : ℕ) (far : (s : �
     s12 : s < 2 ^ 12
     s12 = le-trans low (pow-mono few)
 
-    s32 : s < 2 ^ 32
-    s32 = omega (arith, s12)
-
     done : Finished δ s T
     unfolding T
     done =
         let e : suc (s - 1) ≡ s = omega arith in
-        rw e at (finished-to δ n (s - 1) (omega (arith, few)) (omega arith))
+        rw e at (finished-to δ n (s - 1) (omega arith))
 
     parts : Parts s (examined k s)
     unfolding examined
-    parts = parts-take s (k - length (stepsOf (rising (s - 1) 1))) (splits s) (parts-splits s pos s32)
+    parts = parts-take s (k - length (stepsOf (rising (s - 1) 1))) (splits s) (parts-splits s pos)
 
     scanned : getD (tableAfter δ n k) s 0 ≡ foldl (betterAt (δ s) T s) (blankOf s) (examined k s)
     unfolding T
     scanned =
-        let r : s < length (doneTo δ n (s - 1)) = omega (arith, done-length δ n (s - 1) (omega (arith, few)) (omega arith)) in
+        let r : s < length (doneTo δ n (s - 1)) = omega (arith, done-length δ n (s - 1) (omega arith)) in
         entry-cut δ n k s pos low
         ∙ ap (λ (t : List ℕ). getD t s 0) (fold-set δ (doneTo δ n (s - 1)) s (examined k s) r parts)
         ∙ getD-set-same (doneTo δ n (s - 1)) s (foldl (betterAt (δ s) (doneTo δ n (s - 1)) s) (getD (doneTo δ n (s - 1)) s 0) (examined k s)) 0 r
@@ -111,18 +108,18 @@ module _ (δ : ℕ → ℕ) (n k : ℕ) (few : n ≤ 12) (D : ℕ) (far : (s : �
   table-entries =
       ext-getD 0 (tableAfter δ n k) (tab (entryAfter δ k) (2 ^ n)) (after-length δ n k ∙ sym (length-grow (λ l. entryAfter δ k (length l)) (2 ^ n)))
       (λ i h. let l : i < 2 ^ n = omega (arith, after-length δ n k) in
-      entry-is i l ∙ sym (grow-at (λ l. entryAfter δ k (length l)) (2 ^ n) i 0 l ∙ tab-at (entryAfter δ k) i))
+      entry-is i l ∙ sym (getD-tab (entryAfter δ k) (2 ^ n) i 0 l))
 
 -- "finished subsets hold best": where every split of m is examined, that is what its entry is
-pub finished-best : (δ : ℕ → ℕ) (k m : ℕ) → 0 < m → m < 2 ^ 32 → length (stepsOf (rising (m - 1) 1)) + length (splits m) ≤ k → entryAfter δ k m ≡ best δ m
+pub finished-best : (δ : ℕ → ℕ) (k m : ℕ) → 0 < m → length (stepsOf (rising (m - 1) 1)) + length (splits m) ≤ k → entryAfter δ k m ≡ best δ m
 unfolding entryAfter examined
-finished-best δ k m h f l = go (decLt (ones m) 2)
+finished-best δ k m h l = go (decLt (ones m) 2)
   where
     whole : take (k - length (stepsOf (rising (m - 1) 1))) (splits m) ≡ splits m
     whole = take-all (k - length (stepsOf (rising (m - 1) 1))) (splits m) (omega arith)
 
     some : (r : List ℕ) → splits m ≡ r → 2 ≤ ones m → heldBy δ m r ≡ δ m + leastOf (λ a. best δ a + best δ (m - a)) r
-    some [] e o = absurd (omega (arith, splits-count m h f, ap length e, pow-mono {i = 2} {j = ones m} o))
+    some [] e o = absurd (omega (arith, splits-count m h, ap length e, pow-mono {i = 2} {j = ones m} o))
     some (a ∷ r) e o = refl
 
     go : Dec (ones m < 2) → cond (ltb (ones m) 2) 0 (heldBy δ m (take (k - length (stepsOf (rising (m - 1) 1))) (splits m))) ≡ best δ m
@@ -132,4 +129,4 @@ finished-best δ k m h f l = go (decLt (ones m) 2)
         ap (λ (b : Bool). cond b 0 (heldBy δ m (take (k - length (stepsOf (rising (m - 1) 1))) (splits m)))) (le-ltb (ones m) 2 o2)
         ∙ ap (heldBy δ m) whole
         ∙ some (splits m) refl o2
-        ∙ sym (best-split δ m h f o2)
+        ∙ sym (best-split δ m h o2)

@@ -1,6 +1,6 @@
 -- The table before the first step, and the subsets one after the other.
 use native.Mathlib.Nat.{le-of-lt}
-use lib.Pow.{pow-pos, pow-mono}
+use lib.Pow.{pow-pos}
 use Rattle.lists.specs.Grow.{front}
 use mathlib.Core.Path.{_≡_, refl, sym, ap, ap₂, subst, _∙_}
 use mathlib.Core.List.{List, [], _∷_, _++_, map, foldl, foldl-append, map-append, append-assoc}
@@ -100,19 +100,18 @@ inside-pairs : (k s : ℕ) (l : List ℕ) → s < k → Parts s l → Inside k (
 inside-pairs k s [] h p = tt
 inside-pairs k s (a ∷ l) h p = (h, le-of-lt (p .1), inside-pairs k s l h (p .3))
 
-inside-rising : (k j i : ℕ) → 0 < i → i + j ≤ k → k ≤ 2 ^ 32 → Inside k (stepsOf (rising j i))
+inside-rising : (k j i : ℕ) → 0 < i → i + j ≤ k → Inside k (stepsOf (rising j i))
 unfolding stepsOf rising
-inside-rising k zero i h l f = tt
-inside-rising k (suc j) i h l f =
+inside-rising k zero i h l = tt
+inside-rising k (suc j) i h l =
     inside-append k (map (pairUp i) (splits i)) (stepsOf (rising j (suc i)))
-    (inside-pairs k i (splits i) (omega arith) (parts-splits i h (omega arith))) (inside-rising k j (suc i) (omega arith) (omega arith) f)
+    (inside-pairs k i (splits i) (omega arith) (parts-splits i h)) (inside-rising k j (suc i) (omega arith) (omega arith))
 
-pub inside-steps : (n : ℕ) → n ≤ 32 → Inside (2 ^ n) (steps n)
+pub inside-steps : (n : ℕ) → Inside (2 ^ n) (steps n)
 unfolding steps
-inside-steps n h =
+inside-steps n =
     let p : 0 < 2 ^ n = pow-pos n in
-    let f : 2 ^ n ≤ 2 ^ 32 = pow-mono h in
-    inside-rising (2 ^ n) (2 ^ n - 1) 1 (omega arith) (omega arith) f
+    inside-rising (2 ^ n) (2 ^ n - 1) 1 (omega arith) (omega arith)
 
 step-front : (δ : ℕ → ℕ) (b u : List ℕ) (p : ℕ × ℕ) → p .0 < length b → p .1 ≤ p .0 → stepOf δ (b ++ u) p ≡ stepOf δ b p ++ u
 step-front δ b u p h k =
@@ -134,10 +133,10 @@ pub after-length : (δ : ℕ → ℕ) (n k : ℕ) → length (tableAfter δ n k)
 unfolding tableAfter
 after-length δ n k = fold-length δ (blanks n) (take k (steps n)) ∙ blanks-length n
 
-pub after-front : (δ : ℕ → ℕ) (n : ℕ) → n ≤ 32 → (k : ℕ) (u : List ℕ) → foldl (stepOf δ) (front (blanks n) u) (take k (steps n)) ≡ front (tableAfter δ n k) u
+pub after-front : (δ : ℕ → ℕ) (n k : ℕ) (u : List ℕ) → foldl (stepOf δ) (front (blanks n) u) (take k (steps n)) ≡ front (tableAfter δ n k) u
 unfolding tableAfter
-after-front δ n h k u =
-    fold-front δ (blanks n) (drop (length (blanks n)) u) (take k (steps n)) (subst (λ (x : ℕ). Inside x (take k (steps n))) (sym (blanks-length n)) (inside-take (2 ^ n) k (steps n) (inside-steps n h)))
+after-front δ n k u =
+    fold-front δ (blanks n) (drop (length (blanks n)) u) (take k (steps n)) (subst (λ (x : ℕ). Inside x (take k (steps n))) (sym (blanks-length n)) (inside-take (2 ^ n) k (steps n) (inside-steps n)))
     ∙ ap (λ (x : ℕ). foldl (stepOf δ) (blanks n) (take k (steps n)) ++ drop x u) (blanks-length n ∙ sym (after-length δ n k))
 
 -- where the filling stands, that began with `budget` and the blank table t₀
@@ -163,9 +162,9 @@ module _ (δ : ℕ → ℕ) (n budget : ℕ) (t₀ : List ℕ) where
             ∙ i .1,
       )
 
-  pub fill-end : (s left : ℕ) (t u : List ℕ) → n ≤ 32 → 2 ^ n ≤ s → t₀ ≡ front (blanks n) u → Filling δ n budget t₀ s left t → (budget - left ≡ min budget (length (steps n))) × (t ≡ front (tableAfter δ n budget) u)
-  fill-end s left t u f h e i = (
+  pub fill-end : (s left : ℕ) (t u : List ℕ) → 2 ^ n ≤ s → t₀ ≡ front (blanks n) u → Filling δ n budget t₀ s left t → (budget - left ≡ min budget (length (steps n))) × (t ≡ front (tableAfter δ n budget) u)
+  fill-end s left t u h e i = (
     omega (arith, i .0, ap length (from-none n s h)),
     ap (foldl (stepOf δ) t) (sym (take-nil left) ∙ ap (take left) (sym (from-none n s h))) ∙ i .1
-        ∙ ap (λ (l : List ℕ). foldl (stepOf δ) l (take budget (steps n))) e ∙ after-front δ n f budget u,
+        ∙ ap (λ (l : List ℕ). foldl (stepOf δ) l (take budget (steps n))) e ∙ after-front δ n budget u,
   )

@@ -104,13 +104,13 @@ module _ (xs ys : List ℤ) (budget : ℕ) where
     -- the kept splits of a finished table join every sink once
     pub all-over : stepCount (length xs) ≤ budget → Over here (keptOrder (diam here) (tableOf here budget) (2 ^ length xs - 1))
     all-over h =
-        kept-over here few (tableOf here budget) (finished (diam here) (length xs) budget (let e : length xs ≤ 32 = omega arith in e) h) 6000000 (diam-small xs ys ranged) (omega arith) some
+        kept-over here few (tableOf here budget) (finished (diam here) (length xs) budget h) 6000000 (diam-small xs ys ranged) (omega arith) some
 
     pub all-count : (t : List ℕ) → joinCount (keptOrder (diam here) t (2 ^ length xs - 1)) ≡ length xs - 1
     all-count t =
         let p : 2 ≤ 2 ^ length xs = pow-mono {i = 1} {j = length xs} some in
         let f : 2 ^ length xs ≤ 2 ^ 12 = pow-mono few in
-        order-count (diam here) t (2 ^ length xs - 1) (omega arith) (omega arith) ∙ ap (λ (x : ℕ). x - 1) (ones-ones (length xs))
+        order-count (diam here) t (2 ^ length xs - 1) (omega arith) ∙ ap (λ (x : ℕ). x - 1) (ones-ones (length xs))
 
     -- what is written is a valid joining order, at every budget
     pub found-valid : Valid (length xs) (joinsFound here budget)

@@ -8,7 +8,7 @@ use native.Mathlib.Omega.{arith}
 use lib.ListN.{length, getD, set, length-set, List·getD-map}
 use lib.Seq.{getD-set-same, getD-set-other, take-all}
 use lib.Count.{ones}
-use lib.Pow.{pow-mono, pow-pos}
+use lib.Pow.{pow-pos}
 use Rattle.search.specs.Best.{stepCount}
 use Rattle.search.specs.Subsets.{rising, splits}
 use Rattle.search.specs.Table.{betterAt, blankOf, blanks, pairUp, stepOf, steps, stepsOf, tableAfter}
@@ -32,55 +32,55 @@ module _ (δ : ℕ → ℕ) where
   abbrev value : ℕ → List ℕ → ℕ
   value i t = foldl (betterAt (δ i) t i) (getD t i 0) (splits i)
 
-  run-suc : (k i : ℕ) (t : List ℕ) → 0 < i → i < 2 ^ 32 → i < length t → run (suc k) i t ≡ run k (suc i) (set t i (value i t))
+  run-suc : (k i : ℕ) (t : List ℕ) → 0 < i → i < length t → run (suc k) i t ≡ run k (suc i) (set t i (value i t))
   unfolding stepsOf rising
-  run-suc k i t h f l =
+  run-suc k i t h l =
       foldl-append (stepOf δ) t (map (pairUp i) (splits i)) (stepsOf (rising k (suc i)))
-      ∙ ap (λ (x : List ℕ). foldl (stepOf δ) x (stepsOf (rising k (suc i)))) (fold-set δ t i (splits i) l (parts-splits i h f))
+      ∙ ap (λ (x : List ℕ). foldl (stepOf δ) x (stepsOf (rising k (suc i)))) (fold-set δ t i (splits i) l (parts-splits i h))
 
-  run-length : (k i : ℕ) (t : List ℕ) → 0 < i → i + k ≤ 2 ^ 32 → i + k ≤ length t → length (run k i t) ≡ length t
+  run-length : (k i : ℕ) (t : List ℕ) → 0 < i → i + k ≤ length t → length (run k i t) ≡ length t
   unfolding stepsOf rising
-  run-length zero i t h f l = refl
-  run-length (suc k) i t h f l =
-      ap length (run-suc k i t h (omega arith) (omega arith))
-      ∙ run-length k (suc i) (set t i (value i t)) (omega arith) (omega arith) (omega (arith, length-set t i (value i t)))
+  run-length zero i t h l = refl
+  run-length (suc k) i t h l =
+      ap length (run-suc k i t h (omega arith))
+      ∙ run-length k (suc i) (set t i (value i t)) (omega arith) (omega (arith, length-set t i (value i t)))
       ∙ length-set t i (value i t)
 
-  run-keeps : (k i : ℕ) (t : List ℕ) (j : ℕ) → 0 < i → i + k ≤ 2 ^ 32 → i + k ≤ length t → j < i → getD (run k i t) j 0 ≡ getD t j 0
+  run-keeps : (k i : ℕ) (t : List ℕ) (j : ℕ) → 0 < i → i + k ≤ length t → j < i → getD (run k i t) j 0 ≡ getD t j 0
   unfolding stepsOf rising
-  run-keeps zero i t j h f l b = refl
-  run-keeps (suc k) i t j h f l b =
+  run-keeps zero i t j h l b = refl
+  run-keeps (suc k) i t j h l b =
       let n : j ≢ i = omega arith in
-      ap (λ (x : List ℕ). getD x j 0) (run-suc k i t h (omega arith) (omega arith))
-      ∙ run-keeps k (suc i) (set t i (value i t)) j (omega arith) (omega arith) (omega (arith, length-set t i (value i t))) (omega arith)
+      ap (λ (x : List ℕ). getD x j 0) (run-suc k i t h (omega arith))
+      ∙ run-keeps k (suc i) (set t i (value i t)) j (omega arith) (omega (arith, length-set t i (value i t))) (omega arith)
       ∙ getD-set-other t i j (value i t) 0 n
 
-  run-value : (k i : ℕ) (t : List ℕ) (s : ℕ) → 0 < i → i + k ≤ 2 ^ 32 → i + k ≤ length t → i ≤ s → s < i + k
+  run-value : (k i : ℕ) (t : List ℕ) (s : ℕ) → 0 < i → i + k ≤ length t → i ≤ s → s < i + k
       → getD (run k i t) s 0 ≡ foldl (betterAt (δ s) (run k i t) s) (getD t s 0) (splits s)
-  run-value zero i t s h f l a b = absurd (omega arith)
-  run-value (suc k) i t s h f l a b = go (λ u. run-value k (suc i) u s) (ℕ-discrete s i)
+  run-value zero i t s h l a b = absurd (omega arith)
+  run-value (suc k) i t s h l a b = go (λ u. run-value k (suc i) u s) (ℕ-discrete s i)
     where
       t1 : List ℕ
       t1 = set t i (value i t)
 
       e1 : run (suc k) i t ≡ run k (suc i) t1
-      e1 = run-suc k i t h (omega arith) (omega arith)
+      e1 = run-suc k i t h (omega arith)
 
       n1 : length t1 ≡ length t
       n1 = length-set t i (value i t)
 
-      go : ((u : List ℕ) → 0 < suc i → suc i + k ≤ 2 ^ 32 → suc i + k ≤ length u → suc i ≤ s → s < suc i + k → getD (run k (suc i) u) s 0 ≡ foldl (betterAt (δ s) (run k (suc i) u) s) (getD u s 0) (splits s))
+      go : ((u : List ℕ) → 0 < suc i → suc i + k ≤ length u → suc i ≤ s → s < suc i + k → getD (run k (suc i) u) s 0 ≡ foldl (betterAt (δ s) (run k (suc i) u) s) (getD u s 0) (splits s))
           → Dec (s ≡ i) → getD (run (suc k) i t) s 0 ≡ foldl (betterAt (δ s) (run (suc k) i t) s) (getD t s 0) (splits s)
       go ih (yes e) =
           subst (λ (x : ℕ). getD (run (suc k) i t) x 0 ≡ foldl (betterAt (δ x) (run (suc k) i t) x) (getD t x 0) (splits x)) (sym e)
           (ap (λ (x : List ℕ). getD x i 0) e1
-          ∙ run-keeps k (suc i) t1 i (omega arith) (omega arith) (omega (arith, n1)) (omega arith)
+          ∙ run-keeps k (suc i) t1 i (omega arith) (omega (arith, n1)) (omega arith)
           ∙ getD-set-same t i (value i t) 0 (omega arith)
-          ∙ better-ext (δ i) t (run (suc k) i t) i (getD t i 0) (splits i) (parts-splits i h (omega arith)) (λ j jl. sym (run-keeps (suc k) i t j h f l jl)))
+          ∙ better-ext (δ i) t (run (suc k) i t) i (getD t i 0) (splits i) (parts-splits i h) (λ j jl. sym (run-keeps (suc k) i t j h l jl)))
       go ih (no e) =
           let n2 : s ≢ i = e in
           ap (λ (x : List ℕ). getD x s 0) e1
-          ∙ ih t1 (omega arith) (omega arith) (omega (arith, n1)) (omega arith) (omega arith)
+          ∙ ih t1 (omega arith) (omega (arith, n1)) (omega arith) (omega arith)
           ∙ ap₂ (λ (x : List ℕ) (v : ℕ). foldl (betterAt (δ s) x s) v (splits s)) (sym e1) (getD-set-other t i s (value i t) 0 n2)
 
 rising-get : (k i j : ℕ) → j < k → getD (rising k i) j 0 ≡ i + j
@@ -103,30 +103,28 @@ pub record Finished (δ : ℕ → ℕ) (b : ℕ) (t : List ℕ) : Type 0 where
 unfoldable pub doneTo : (ℕ → ℕ) → ℕ → ℕ → List ℕ
 doneTo δ n k = foldl (stepOf δ) (blanks n) (stepsOf (rising k 1))
 
-pub finished-to : (δ : ℕ → ℕ) (n k : ℕ) → n ≤ 32 → k < 2 ^ n → Finished δ (suc k) (doneTo δ n k)
+pub finished-to : (δ : ℕ → ℕ) (n k : ℕ) → k < 2 ^ n → Finished δ (suc k) (doneTo δ n k)
 unfolding doneTo
-finished-to δ n k h l =
-    let m : 2 ^ n ≤ 2 ^ 32 = pow-mono h in
+finished-to δ n k l =
     let e : length (blanks n) ≡ 2 ^ n = blanks-length n in
     record {
       entry = λ s hs hl.
-          run-value δ k 1 (blanks n) s (omega arith) (omega arith) (omega arith) hs (omega arith)
+          run-value δ k 1 (blanks n) s (omega arith) (omega arith) hs (omega arith)
           ∙ ap (λ (v : ℕ). foldl (betterAt (δ s) (run δ k 1 (blanks n)) s) v (splits s)) (blank-get n s (omega arith));
     }
 
-pub done-length : (δ : ℕ → ℕ) (n k : ℕ) → n ≤ 32 → k < 2 ^ n → length (doneTo δ n k) ≡ 2 ^ n
+pub done-length : (δ : ℕ → ℕ) (n k : ℕ) → k < 2 ^ n → length (doneTo δ n k) ≡ 2 ^ n
 unfolding doneTo
-done-length δ n k h l =
-    let m : 2 ^ n ≤ 2 ^ 32 = pow-mono h in
-    run-length δ k 1 (blanks n) (omega arith) (omega arith) (omega (arith, blanks-length n)) ∙ blanks-length n
+done-length δ n k l =
+    run-length δ k 1 (blanks n) (omega arith) (omega (arith, blanks-length n)) ∙ blanks-length n
 
 -- from F(n) steps on it is the finished table
-pub done-all : (δ : ℕ → ℕ) (n budget : ℕ) → n ≤ 32 → stepCount n ≤ budget → tableAfter δ n budget ≡ doneTo δ n (2 ^ n - 1)
+pub done-all : (δ : ℕ → ℕ) (n budget : ℕ) → stepCount n ≤ budget → tableAfter δ n budget ≡ doneTo δ n (2 ^ n - 1)
 unfolding tableAfter steps doneTo
-done-all δ n budget h b = ap (foldl (stepOf δ) (blanks n)) (take-all budget (steps n) (omega (arith, steps-count n h)))
+done-all δ n budget b = ap (foldl (stepOf δ) (blanks n)) (take-all budget (steps n) (omega (arith, steps-count n)))
 
-pub finished : (δ : ℕ → ℕ) (n budget : ℕ) → n ≤ 32 → stepCount n ≤ budget → Finished δ (2 ^ n) (tableAfter δ n budget)
-finished δ n budget h b =
+pub finished : (δ : ℕ → ℕ) (n budget : ℕ) → stepCount n ≤ budget → Finished δ (2 ^ n) (tableAfter δ n budget)
+finished δ n budget b =
     let p : 0 < 2 ^ n = pow-pos n in
     let e : suc (2 ^ n - 1) ≡ 2 ^ n = omega arith in
-    rw (done-all δ n budget h b) (rw e at (finished-to δ n (2 ^ n - 1) h (omega arith)))
+    rw (done-all δ n budget b) (rw e at (finished-to δ n (2 ^ n - 1) (omega arith)))

@@ -4,7 +4,6 @@ use mathlib.Core.Logic.{⊎-elim}
 use mathlib.Core.Bool.{Bool, cond}
 use mathlib.Core.List.{List, [], _∷_, List·Memᴰ, List·Memᴰ·head, List·Memᴰ·tail}
 use Prim.Native.Nat.{ℕ, _+_, _-_, _^_, _≤_, _<_}
-use native.Mathlib.Nat.{le-trans}
 use native.Mathlib.Decide.{ℕ-discrete}
 use native.Mathlib.Omega.{arith}
 use lib.Dec.{eqb}
@@ -78,16 +77,13 @@ module _ (δ : ℕ → ℕ) (b : ℕ) (small : b ≤ 2 ^ 12) (t : List ℕ) (don
   abbrev sumOf : ℕ → ℕ
   sumOf a = best δ a + best δ (m - a)
 
-  m32 : m < 2 ^ 32
-  m32 = let e : m < 2 ^ 12 = le-trans low small in omega arith
-
   -- the part that is kept, by best alone: the first split whose sum is the least
   pub kept-is : keptPart δ t m ≡ firstOr (λ a. eqb (best δ a + best δ (m - a)) (leastOf sumOf (splits m))) (2 ^ lowest m) (splits m)
   unfolding keptPart
   kept-is =
-      first-ext (meets δ t m) (λ a. eqb (sumOf a) (leastOf sumOf (splits m))) (2 ^ lowest m) m (splits m) (parts-splits m pos m32)
+      first-ext (meets δ t m) (λ a. eqb (sumOf a) (leastOf sumOf (splits m))) (2 ^ lowest m) m (splits m) (parts-splits m pos)
       (λ a h l.
-      let e1 : getD t m 0 ≡ δ m + leastOf sumOf (splits m) = holds-best δ b small t done D far near m pos low ∙ best-split δ m pos m32 two in
+      let e1 : getD t m 0 ≡ δ m + leastOf sumOf (splits m) = holds-best δ b small t done D far near m pos low ∙ best-split δ m pos two in
       let e2 : costOf δ t m a ≡ δ m + sumOf a =
       omega (arith, holds-best δ b small t done D far near a h (omega arith), holds-best δ b small t done D far near (m - a) (omega arith) (omega arith)) in
       ap₂ eqb e2 e1 ∙ shifted (δ m) (sumOf a) (leastOf sumOf (splits m)))
@@ -97,7 +93,7 @@ module _ (δ : ℕ → ℕ) (b : ℕ) (small : b ≤ 2 ^ 12) (t : List ℕ) (don
   kept-first = subst (λ (a : ℕ). FirstLeast sumOf a (splits m)) (sym kept-is) (some (splits m) refl)
     where
       some : (l : List ℕ) → splits m ≡ l → FirstLeast sumOf (firstOr (λ a. eqb (sumOf a) (leastOf sumOf (splits m))) (2 ^ lowest m) (splits m)) (splits m)
-      some [] e = absurd (omega (arith, splits-count m pos m32, ap length e, pow-mono {i = 2} {j = ones m} two))
+      some [] e = absurd (omega (arith, splits-count m pos, ap length e, pow-mono {i = 2} {j = ones m} two))
       some (a ∷ l) e =
           let (y, h, w) = least-met sumOf a l in
           found-first sumOf (leastOf sumOf (splits m)) (2 ^ lowest m) (splits m) (least-under sumOf (splits m)) y

@@ -108,7 +108,7 @@ kept-written δ n size all t js js2 h k ea es room e =
     let w : all - 1 ≡ 2 ^ n - 1 = omega arith in
     let l : length (pairsOf n (keptOrder δ (take (2 ^ n) t) (2 ^ n - 1)) 0) ≡ 2 * (n - 1) =
     pairs-length n (keptOrder δ (take (2 ^ n) t) (2 ^ n - 1)) 0
-    ∙ ap (λ (x : ℕ). 2 * x) (order-count δ (take (2 ^ n) t) (2 ^ n - 1) (omega arith) (omega arith) ∙ ap (λ (x : ℕ). x - 1) (ones-ones n)) in
+    ∙ ap (λ (x : ℕ). 2 * x) (order-count δ (take (2 ^ n) t) (2 ^ n - 1) (omega arith) ∙ ap (λ (x : ℕ). x - 1) (ones-ones n)) in
     e
     ∙ ap₂ (λ (x y : ℕ). sets js 0 (pairsOf n (keptOrder δ (take x t) y) 0)) z w
     ∙ sets-eq (pairsOf n (keptOrder δ (take (2 ^ n) t) (2 ^ n - 1)) 0) js 0 (omega arith)

@@ -11,7 +11,7 @@ use lib.Count.{ones}
 use borrow.Author.Tests.{eq-eqb, ne-eqb}
 use Rattle.search.specs.Kept.{firstOr, keptPart, meets}
 use Rattle.search.specs.Subsets.{lowest, splits}
-use Rattle.search.proofs.Digits.{Sub, left-part, low-le, low-pos, ones-low, sub-le}
+use Rattle.search.proofs.Digits.{Sub, left-part, low-le, low-pos, ones-low, self-lt, sub-le}
 use Rattle.search.proofs.Scan.{Parts, parts-splits}
 use Rattle.search.proofs.Splits.{down, down-cons, splits-rest}
 
@@ -32,12 +32,12 @@ meetsAt d t s g a = eqb (d + getD t a 0 + getD t (s - a) 0) g
 abbrev pub found : ℕ → List ℕ → ℕ → ℕ → ℕ → ℕ
 found d t s g other = firstOr (meetsAt d t s g) (2 ^ lowest s) (down s other)
 
-module _ (d : ℕ) (t : List ℕ) (s g : ℕ) (pos : 0 < s) (fits : s < 2 ^ 32) where
+module _ (d : ℕ) (t : List ℕ) (s g : ℕ) (pos : 0 < s) where
   pub kept-start : (δ : ℕ → ℕ) (rest : ℕ) → d ≡ δ s → g ≡ getD t s 0 → rest ≡ s - 2 ^ lowest s → found d t s g rest ≡ keptPart δ t s
   unfolding keptPart
   kept-start δ rest ed eg er =
       ap (found d t s g) er
-      ∙ ap (firstOr (meetsAt d t s g) (2 ^ lowest s)) (sym (splits-rest s pos fits))
+      ∙ ap (firstOr (meetsAt d t s g) (2 ^ lowest s)) (sym (splits-rest s pos))
       ∙ ap₂ (λ (x y : ℕ). firstOr (meetsAt x t s y) (2 ^ lowest s) (splits s)) ed eg
 
   pub kept-none : found d t s g 0 ≡ 2 ^ lowest s
@@ -53,12 +53,12 @@ module _ (d : ℕ) (t : List ℕ) (s g : ℕ) (pos : 0 < s) (fits : s < 2 ^ 32) 
 
     pub kept-hit : d + getD t (s - other) 0 + getD t other 0 ≡ g → found d t s g other ≡ s - other
     kept-hit e =
-        ap (firstOr (meetsAt d t s g) (2 ^ lowest s)) (down-cons s pos fits other more inside)
+        ap (firstOr (meetsAt d t s g) (2 ^ lowest s)) (down-cons s pos other more inside)
         ∙ first-yes (meetsAt d t s g) (2 ^ lowest s) (s - other) (down s (bitAnd (other - 1) (s - 2 ^ lowest s))) (eq-eqb (d + getD t (s - other) 0 + getD t (s - (s - other)) 0) g (cost-is ∙ e))
 
     pub kept-miss : (d + getD t (s - other) 0 + getD t other 0 ≡ g → ⊥) → found d t s g other ≡ found d t s g (bitAnd (other - 1) (s - 2 ^ lowest s))
     kept-miss e =
-        ap (firstOr (meetsAt d t s g) (2 ^ lowest s)) (down-cons s pos fits other more inside)
+        ap (firstOr (meetsAt d t s g) (2 ^ lowest s)) (down-cons s pos other more inside)
         ∙ first-no (meetsAt d t s g) (2 ^ lowest s) (s - other) (down s (bitAnd (other - 1) (s - 2 ^ lowest s))) (ne-eqb (d + getD t (s - other) 0 + getD t (s - (s - other)) 0) g (λ k. e (sym cost-is ∙ k)))
 
 -- ---- the kept part is a part
@@ -75,29 +75,29 @@ first-part p o s (x ∷ l) h k = go (p x) (first-part p o s l h (k .3))
     go true r = (k .0, k .1, k .2)
     go false r = r
 
-pub ones-pos : (s : ℕ) → 0 < s → s < 2 ^ 32 → 0 < ones s
-ones-pos s h k = omega (arith, ones-low 32 s h k)
+pub ones-pos : (s : ℕ) → 0 < s → 0 < ones s
+ones-pos s h = omega (arith, ones-low s s h (self-lt s))
 
 ones-none : ones 0 ≡ 0
 unfolding ones
 ones-none = refl
 
-pub rest-pos : (s : ℕ) → 0 < s → s < 2 ^ 32 → 2 ≤ ones s → 0 < s - 2 ^ lowest s
-rest-pos s h k l = go (s - 2 ^ lowest s) refl
+pub rest-pos : (s : ℕ) → 0 < s → 2 ≤ ones s → 0 < s - 2 ^ lowest s
+rest-pos s h l = go (s - 2 ^ lowest s) refl
   where
     go : (r : ℕ) → s - 2 ^ lowest s ≡ r → 0 < s - 2 ^ lowest s
-    go zero e = absurd (omega (arith, ones-low 32 s h k, ap ones e, ones-none))
+    go zero e = absurd (omega (arith, ones-low s s h (self-lt s), ap ones e, ones-none))
     go (suc r) e = omega arith
 
-pub low-part : (s : ℕ) → 0 < s → s < 2 ^ 32 → 2 ≤ ones s → Part s (2 ^ lowest s)
-low-part s h k l = (
-  low-pos 32 s,
-  omega (arith, rest-pos s h k l),
-  subst (λ (x : ℕ). Sub x s) (let e : s - (s - 2 ^ lowest s) ≡ 2 ^ lowest s = omega (arith, low-le 32 s h k) in e) (left-part 32 s (s - 2 ^ lowest s) h k (and-self (s - 2 ^ lowest s)) .0),
+pub low-part : (s : ℕ) → 0 < s → 2 ≤ ones s → Part s (2 ^ lowest s)
+low-part s h l = (
+  low-pos s s,
+  omega (arith, rest-pos s h l),
+  subst (λ (x : ℕ). Sub x s) (let e : s - (s - 2 ^ lowest s) ≡ 2 ^ lowest s = omega (arith, low-le s s h (self-lt s)) in e) (left-part s s (s - 2 ^ lowest s) h (self-lt s) (and-self (s - 2 ^ lowest s)) .0),
 )
 
-pub kept-part : (δ : ℕ → ℕ) (t : List ℕ) (s : ℕ) → 0 < s → s < 2 ^ 32 → 2 ≤ ones s → Part s (keptPart δ t s)
+pub kept-part : (δ : ℕ → ℕ) (t : List ℕ) (s : ℕ) → 0 < s → 2 ≤ ones s → Part s (keptPart δ t s)
 unfolding keptPart
-kept-part δ t s h k l =
-    first-part (meets δ t s) (2 ^ lowest s) s (splits s) (low-part s h k l)
-    (parts-splits s h k)
+kept-part δ t s h l =
+    first-part (meets δ t s) (2 ^ lowest s) s (splits s) (low-part s h l)
+    (parts-splits s h)

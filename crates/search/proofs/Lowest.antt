@@ -11,7 +11,7 @@ use lib.Pow.{pow-mono}
 use lib.Count.{trailingZeros}
 use Rattle.search.specs.Square.{farthestOf, widest, widestOf}
 use Rattle.search.specs.Subsets.{holds, keep, keepIf, lowest, rising, sinksIn}
-use Rattle.search.proofs.Digits.{low, low-even, low-le, low-odd, low-pos, parity, tz-even, tz-odd}
+use Rattle.search.proofs.Digits.{low, low-even, low-le, low-odd, low-pos, parity, self-lt, tz-any, tz-even, tz-odd}
 
 -- the sinks of s as the code finds them: the places of the ones among the k lowest digits, the lowest of which is place i
 unfoldable sinksFrom : ℕ → ℕ → ℕ → List ℕ
@@ -63,23 +63,30 @@ from-cons (suc d) i s h k = go (from-cons d (suc i) (s / 2)) (parity s)
         let t : i ≡ i + trailingZeros (suc d) s = omega (arith, tz-odd d s e) in
         from-odd d i s e ∙ ap₂ (λ (x y : ℕ). x ∷ sinksFrom d (suc i) y) t e2 ∙ ap (λ (l : List ℕ). (i + trailingZeros (suc d) s) ∷ l) (sym (from-even d i (s - low (suc d) s) e3))
 
+-- what the code counts, of 32 digits
+pub lowest-is : (s : ℕ) → 0 < s → s < 2 ^ 32 → trailingZeros 32 s ≡ lowest s
+lowest-is s h k = tz-any 32 s s h k (self-lt s)
+
 pub sinks-cons : (s : ℕ) → 0 < s → s < 2 ^ 32 → sinksIn 32 s ≡ lowest s ∷ sinksIn 32 (s - 2 ^ lowest s)
 sinks-cons s h k =
-    sinks-are s ∙ from-cons 32 0 s h k ∙ ap₂ (λ (x : ℕ) (l : List ℕ). x ∷ l) (let e : 0 + lowest s ≡ lowest s = omega arith in e) (sym (sinks-are (s - low 32 s)))
+    sinks-are s ∙ from-cons 32 0 s h k ∙ ap (λ (x : ℕ). (0 + x) ∷ sinksFrom 32 0 (s - 2 ^ x)) (lowest-is s h k)
+    ∙ ap₂ (λ (x : ℕ) (l : List ℕ). x ∷ l) (let e : 0 + lowest s ≡ lowest s = omega arith in e) (sym (sinks-are (s - 2 ^ lowest s)))
 
 -- the lowest sink of a subset of n sinks is one of them
-pub lowest-lt : (n s : ℕ) → 0 < s → s < 2 ^ 32 → s < 2 ^ n → lowest s < n
-lowest-lt n s h k l = lt-of-not-le (λ m. lt-irrefl s (lt-of-lt-of-le′ l (le-trans (pow-mono m) (low-le 32 s h k))))
+pub lowest-lt : (n s : ℕ) → 0 < s → s < 2 ^ n → lowest s < n
+lowest-lt n s h l = lt-of-not-le (λ m. lt-irrefl s (lt-of-lt-of-le′ l (le-trans (pow-mono m) (low-le s s h (self-lt s)))))
   where
     lt-of-lt-of-le′ : {a b c : ℕ} → a < b → b ≤ c → a < c
     lt-of-lt-of-le′ p q = le-trans p q
 
 -- the code's shift
-pub shl-one : (s : ℕ) → 0 < s → s < 2 ^ 32 → 1 * 2 ^ lowest s % 4294967296 ≡ 2 ^ lowest s
-shl-one s h k = omega (arith, low-le 32 s h k, mod-eq-of-lt {n = 1 * 2 ^ lowest s} {m = 4294967296} (omega (arith, low-le 32 s h k)))
+pub shl-one : (s : ℕ) → 0 < s → s < 2 ^ 32 → 1 * 2 ^ trailingZeros 32 s % 4294967296 ≡ 2 ^ lowest s
+shl-one s h k =
+    ap (λ (x : ℕ). 1 * 2 ^ x % 4294967296) (lowest-is s h k)
+    ∙ omega (arith, mod-eq-of-lt {n = 1 * 2 ^ lowest s} {m = 4294967296} (omega (arith, low-le s s h (self-lt s))))
 
-pub beyond-lt : (s : ℕ) → 0 < s → s < 2 ^ 32 → s - 2 ^ lowest s < s
-beyond-lt s h k = omega (arith, low-le 32 s h k, low-pos 32 s)
+pub beyond-lt : (s : ℕ) → 0 < s → s - 2 ^ lowest s < s
+beyond-lt s h = omega (arith, low-le s s h (self-lt s), low-pos s s)
 
 pub farthest-zero : (row : List ℕ) → farthestOf row (sinksIn 32 0) ≡ 0
 unfolding farthestOf

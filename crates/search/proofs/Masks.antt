@@ -101,7 +101,7 @@ lowest-in (suc d) s a h k u = go (lowest-in d (s / 2) (a / 2)) (parity s) (parit
     go ih (inr e) (inl f) = inr (here (s - a) e (omega (arith, l)))
     go ih (inr e) (inr f) = inl (here a e f)
 
-pub part-of : (s a : ℕ) → Sub a s → a / low 32 s % 2 ≡ 1 → isPart s a ≡ true
+pub part-of : (s a : ℕ) → Sub a s → a / 2 ^ lowest s % 2 ≡ 1 → isPart s a ≡ true
 unfolding isPart
 part-of s a u v = ap₂ (λ (x y : Bool). x && y) (eq-eqb (bitAnd a s) a u) (eq-eqb (a / 2 ^ lowest s % 2) 1 v)
 

@@ -20,18 +20,18 @@ use Rattle.search.specs.Subsets.{diam, lowest, splits}
 use Rattle.search.specs.Table.{blankOf}
 use Rattle.search.proofs.Bellman.{best-is-kept, best-le, least-le, small-blank}
 use Rattle.search.proofs.Bits.{bit, bit-all, bit-high, bit-pow, bit-rest, bits-low}
-use Rattle.search.proofs.Digits.{Sub, low, low-le, ones-low, sub-rest}
+use Rattle.search.proofs.Digits.{Sub, low-le, ones-low, self-lt, sub-rest}
 use Rattle.search.proofs.Finished.{Finished}
 use Rattle.search.proofs.KeptParts.{Part, kept-part, ones-pos}
 use Rattle.search.proofs.Masks.{Once, diam-listed, listed-diam, lowest-in, mask, mask-bit, mask-some, masks-apart, once-l, once-r, ones-single, over-all, over-once, part-of, sub-sum}
 use Rattle.search.proofs.Numbering.{order-small, order-step}
 
-single : (s : ℕ) → 0 < s → s < 2 ^ 32 → ones s < 2 → 2 ^ lowest s ≡ s
-single s h k o = go (s - 2 ^ lowest s) refl
+single : (s : ℕ) → 0 < s → ones s < 2 → 2 ^ lowest s ≡ s
+single s h o = go (s - 2 ^ lowest s) refl
   where
     go : (r : ℕ) → s - 2 ^ lowest s ≡ r → 2 ^ lowest s ≡ s
-    go zero e = omega (arith, low-le 32 s h k)
-    go (suc r) e = absurd (omega (arith, ones-low 32 s h k, ones-pos (s - 2 ^ lowest s) (omega arith) (omega arith)))
+    go zero e = omega (arith, low-le s s h (self-lt s))
+    go (suc r) e = absurd (omega (arith, ones-low s s h (self-lt s), ones-pos (s - 2 ^ lowest s) (omega arith)))
 
 module _ (s : Sinks) (few : s .n ≤ 12) (t : List ℕ) (done : Finished (diam s) (2 ^ s .n) t) where
   room : 2 ^ s .n ≤ 2 ^ 12
@@ -55,13 +55,10 @@ module _ (s : Sinks) (few : s .n ≤ 12) (t : List ℕ) (done : Finished (diam s
       (under r (once-r l r once) (λ i h. omega (arith, none i h, count-append i (sinksOf l) (sinksOf r))))
       (diam-listed s (mask l + mask r) (sinksOf l ++ sinksOf r) (λ i. sym (mask-bit (both l r) once i)))
       fits
-      (lowest-in 32 (mask l + mask r) (mask l) (omega (arith, mask-some l)) (wide fits) (sub-sum (mask l) (mask r) (masks-apart l r once)))
+      (lowest-in (mask l + mask r) (mask l + mask r) (mask l) (omega (arith, mask-some l)) (self-lt (mask l + mask r)) (sub-sum (mask l) (mask r) (masks-apart l r once)))
     where
-      wide : mask l + mask r < 2 ^ s .n → mask l + mask r < 2 ^ 32
-      wide h = let e : mask l + mask r < 2 ^ 12 = le-trans h room in omega arith
-
       go : getD t (mask l) 0 ≤ sums s l → getD t (mask r) 0 ≤ sums s r → diam s (mask l + mask r) ≤ diameter s (sinksOf l ++ sinksOf r) → mask l + mask r < 2 ^ s .n
-          → (mask l / low 32 (mask l + mask r) % 2 ≡ 1) ⊎ ((mask l + mask r - mask l) / low 32 (mask l + mask r) % 2 ≡ 1)
+          → (mask l / 2 ^ lowest (mask l + mask r) % 2 ≡ 1) ⊎ ((mask l + mask r - mask l) / 2 ^ lowest (mask l + mask r) % 2 ≡ 1)
           → getD t (mask l + mask r) 0 ≤ diameter s (sinksOf l ++ sinksOf r) + sums s l + sums s r
       go il ir wid fits (inl v) =
           let e : mask l + mask r - mask l ≡ mask r = omega arith in
@@ -76,7 +73,7 @@ module _ (s : Sinks) (few : s .n ≤ 12) (t : List ℕ) (done : Finished (diam s
           let u : Sub (mask r) (mask l + mask r) = subst (λ (x : ℕ). Sub x (mask l + mask r)) e (sub-rest (mask l + mask r) (mask l) (sub-sum (mask l) (mask r) (masks-apart l r once))) in
           omega (
             arith,
-            best-le (diam s) (2 ^ s .n) room t done (mask l + mask r) (mask r) fits (omega (arith, mask-some l)) (part-of (mask l + mask r) (mask r) u (ap (λ (x : ℕ). x / low 32 (mask l + mask r) % 2) (sym e) ∙ v)),
+            best-le (diam s) (2 ^ s .n) room t done (mask l + mask r) (mask r) fits (omega (arith, mask-some l)) (part-of (mask l + mask r) (mask r) u (ap (λ (x : ℕ). x / 2 ^ lowest (mask l + mask r) % 2) (sym e) ∙ v)),
             ap (λ (x : ℕ). getD t x 0) f,
           )
 
@@ -94,19 +91,16 @@ module _ (s : Sinks) (few : s .n ≤ 12) (t : List ℕ) (done : Finished (diam s
     attained zero m l h k = absurd (omega arith)
     attained (suc f) m l h k = go (λ x. attained f x) (decLt (ones m) 2)
       where
-        k32 : m < 2 ^ 32
-        k32 = let e : m < 2 ^ 12 = le-trans k room in omega arith
-
         go : ((x : ℕ) → x ≤ f → 0 < x → x < 2 ^ s .n → Attains x (keptIn (diam s) t f x)) → Dec (ones m < 2) → Attains m (keptIn (diam s) t (suc f) m)
         go ih (yes o) =
-            let e : 2 ^ lowest m ≡ m = single m h k32 o in
+            let e : 2 ^ lowest m ≡ m = single m h o in
             subst (Attains m) (sym (order-small (diam s) t (suc f) m o)) (
               (λ i. let b = bit-pow i (lowest m) in omega (arith, b, ap (bit i) e)),
               sym (entry-single m h k o),
             )
         go ih (no o) =
             let o2 : 2 ≤ ones m = omega arith in
-            let p : Part m (keptPart (diam s) t m) = kept-part (diam s) t m h k32 o2 in
+            let p : Part m (keptPart (diam s) t m) = kept-part (diam s) t m h o2 in
             let x = ih (keptPart (diam s) t m) (omega (arith, p .1)) (p .0) (omega (arith, p .1)) in
             let y = ih (m - keptPart (diam s) t m) (omega (arith, p .0)) (omega (arith, p .1)) (omega (arith, p .0)) in
             let L = sinksOf (keptIn (diam s) t f (keptPart (diam s) t m)) in

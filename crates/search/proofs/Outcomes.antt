@@ -2,7 +2,6 @@
 use mathlib.Core.Path.{_≡_, refl, sym, ap, _∙_}
 use mathlib.Core.List.{List}
 use Prim.Native.Nat.{ℕ, _≤_}
-use native.Mathlib.Omega.{arith}
 use lib.IntN.{ℤ}
 use lib.ListN.{length}
 use Rattle.lists.specs.Grow.{front}
@@ -15,7 +14,6 @@ use Rattle.search.specs.declared.search.Searched.the-variants.{NoTree}
 use Rattle.search.specs.Best.{stepCount}
 use Rattle.search.specs.Rooms.{checkSearch}
 use Rattle.search.specs.Searching.{Searches, found, foundAfter, ifTree, joinsFound, tableOf}
-use Rattle.search.proofs.Finding.{provided}
 use Rattle.search.proofs.Promises.{found-stands, joins-stand, table-stands}
 
 -- the answers, and the buffers after the calls
@@ -50,11 +48,10 @@ module _ (xs ys : List ℤ) (table js : List ℕ) (us vs : List ℤ) (ws : List 
         go : (k : Checked) → checkSearch xs ys (length table) (length js) (length us) (length vs) (length ws) ≡ k → Searches xs ys b table js us vs ws r t j u v w
         go Fine e =
             let s = sinksAt xs ys in
-            let few : length xs ≤ 32 = omega (arith, provided xs ys table js us vs ws e .prepared .few) in
-            let ej : joinsFound s c ≡ joinsFound s b = joins-stand s c b few enough′ enough in
+            let ej : joinsFound s c ≡ joinsFound s b = joins-stand s c b enough′ enough in
             record {
-              answers = p .answers ∙ ap (foundAfter (checkSearch xs ys (length table) (length js) (length us) (length vs) (length ws))) (found-stands s c b few enough′ enough);
-              writes-table = p .writes-table ∙ ap (λ (l : List ℕ). front (ifTree r l) table) (table-stands s c b few enough′ enough);
+              answers = p .answers ∙ ap (foundAfter (checkSearch xs ys (length table) (length js) (length us) (length vs) (length ws))) (found-stands s c b enough′ enough);
+              writes-table = p .writes-table ∙ ap (λ (l : List ℕ). front (ifTree r l) table) (table-stands s c b enough′ enough);
               writes-js = p .writes-js ∙ ap (λ (l : List ℕ). front (ifTree r l) js) ej;
               writes-u = p .writes-u ∙ ap (λ (l : List ℕ). front (ifTree r (placesU s l)) us) ej;
               writes-v = p .writes-v ∙ ap (λ (l : List ℕ). front (ifTree r (placesV s l)) vs) ej;

@@ -42,24 +42,24 @@ use Rattle.search.proofs.Recursion.{holds-best}
 use Rattle.search.proofs.Small.{diam-small}
 
 -- ---- the steps reported are those of the definition that the table is the result of
-pub steps-taken : (s : Sinks) (b : ℕ) → s .n ≤ 32 → found s b .steps ≡ length (take b (steps (s .n)))
+pub steps-taken : (s : Sinks) (b : ℕ) → found s b .steps ≡ length (take b (steps (s .n)))
 unfolding found
-steps-taken s b few = ap (min b) (sym (steps-count (s .n) few)) ∙ sym (length-take b (steps (s .n)))
+steps-taken s b = ap (min b) (sym (steps-count (s .n))) ∙ sym (length-take b (steps (s .n)))
 
 -- ---- from F(n) on nothing changes
-pub table-stands : (s : Sinks) (b c : ℕ) → s .n ≤ 32 → stepCount (s .n) ≤ b → stepCount (s .n) ≤ c → tableOf s b ≡ tableOf s c
-table-stands s b c few h k = done-all (diam s) (s .n) b few h ∙ sym (done-all (diam s) (s .n) c few k)
+pub table-stands : (s : Sinks) (b c : ℕ) → stepCount (s .n) ≤ b → stepCount (s .n) ≤ c → tableOf s b ≡ tableOf s c
+table-stands s b c h k = done-all (diam s) (s .n) b h ∙ sym (done-all (diam s) (s .n) c k)
 
-pub joins-stand : (s : Sinks) (b c : ℕ) → s .n ≤ 32 → stepCount (s .n) ≤ b → stepCount (s .n) ≤ c → joinsFound s b ≡ joinsFound s c
-joins-stand s b c few h k =
+pub joins-stand : (s : Sinks) (b c : ℕ) → stepCount (s .n) ≤ b → stepCount (s .n) ≤ c → joinsFound s b ≡ joinsFound s c
+joins-stand s b c h k =
     joins-all s b h
-    ∙ ap (λ (t : List ℕ). pairsOf (s .n) (keptOrder (diam s) t (2 ^ s .n - 1)) 0) (table-stands s b c few h k)
+    ∙ ap (λ (t : List ℕ). pairsOf (s .n) (keptOrder (diam s) t (2 ^ s .n - 1)) 0) (table-stands s b c h k)
     ∙ sym (joins-all s c k)
 
-pub found-stands : (s : Sinks) (b c : ℕ) → s .n ≤ 32 → stepCount (s .n) ≤ b → stepCount (s .n) ≤ c → found s b ≡ found s c
+pub found-stands : (s : Sinks) (b c : ℕ) → stepCount (s .n) ≤ b → stepCount (s .n) ≤ c → found s b ≡ found s c
 unfolding found
-found-stands s b c few h k = λ i. record {
-  total = ap (total s) (joins-stand s b c few h k) i;
+found-stands s b c h k = λ i. record {
+  total = ap (total s) (joins-stand s b c h k) i;
   steps = (let e : min b (stepCount (s .n)) ≡ min c (stepCount (s .n)) = omega arith in e) i;
   proven = (le-leb (stepCount (s .n)) b h ∙ sym (le-leb (stepCount (s .n)) c k)) i;
 }
@@ -76,9 +76,6 @@ from-proven s b e = leb-true (stepCount (s .n)) b e
 module _ (xs ys : List ℤ) (ranged : Ranged xs ys) (some : 0 < length xs) (few : length xs ≤ 12) where
   abbrev here : Sinks
   here = sinksAt xs ys
-
-  few32 : length xs ≤ 32
-  few32 = omega arith
 
   -- the table at every budget, entry by entry
   pub table-is : (b : ℕ) → tableOf here b ≡ tab (entryAfter (diam here) b) (2 ^ length xs)
@@ -101,7 +98,7 @@ module _ (xs ys : List ℤ) (ranged : Ranged xs ys) (some : 0 < length xs) (few 
     kept = keptOrder (diam here) (tableOf here b) (2 ^ length xs - 1)
 
     finishes : Finished (diam here) (2 ^ length xs) (tableOf here b)
-    finishes = finished (diam here) (length xs) b few32 enough
+    finishes = finished (diam here) (length xs) b enough
 
     kept-all : Over here kept
     unfolding kept

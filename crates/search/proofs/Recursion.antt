@@ -3,7 +3,7 @@ use mathlib.Core.Path.{_≡_, refl, sym, ap, ap₂, subst, _∙_}
 use mathlib.Core.Bool.{Bool, cond}
 use mathlib.Core.List.{List, [], _∷_, foldl}
 use Prim.Native.Nat.{ℕ, zero, suc, _+_, _-_, _^_, _≤_, _<_, min}
-use native.Mathlib.Nat.{le-refl, le-trans}
+use native.Mathlib.Nat.{le-refl}
 use native.Mathlib.Decide.{decLt}
 use native.Mathlib.Omega.{arith}
 use lib.ListN.{length, getD}
@@ -49,18 +49,18 @@ module _ (δ : ℕ → ℕ) where
   in-step f m o = ap (λ (b : Bool). cond b 0 (δ m + leastOf (sumsOf f m) (splits m))) (le-ltb (ones m) 2 o)
 
   -- any number of turns that is enough gives the same
-  turns : (f g m : ℕ) → 0 < m → m < 2 ^ 32 → m ≤ f → m ≤ g → bestIn δ f m ≡ bestIn δ g m
-  turns zero g m h k l r = absurd (omega arith)
-  turns (suc f) zero m h k l r = absurd (omega arith)
-  turns (suc f) (suc g) m h k l r = go (λ x. turns f g x) (decLt (ones m) 2)
+  turns : (f g m : ℕ) → 0 < m → m ≤ f → m ≤ g → bestIn δ f m ≡ bestIn δ g m
+  turns zero g m h l r = absurd (omega arith)
+  turns (suc f) zero m h l r = absurd (omega arith)
+  turns (suc f) (suc g) m h l r = go (λ x. turns f g x) (decLt (ones m) 2)
     where
-      go : ((x : ℕ) → 0 < x → x < 2 ^ 32 → x ≤ f → x ≤ g → bestIn δ f x ≡ bestIn δ g x) → Dec (ones m < 2) → bestIn δ (suc f) m ≡ bestIn δ (suc g) m
+      go : ((x : ℕ) → 0 < x → x ≤ f → x ≤ g → bestIn δ f x ≡ bestIn δ g x) → Dec (ones m < 2) → bestIn δ (suc f) m ≡ bestIn δ (suc g) m
       go ih (yes o) = in-single (suc f) m o ∙ sym (in-single (suc g) m o)
       go ih (no o) =
           let o2 : 2 ≤ ones m = omega arith in
           in-step f m o2
-          ∙ ap (λ (x : ℕ). δ m + x) (least-ext (sumsOf f m) (sumsOf g m) m (splits m) (parts-splits m h k)
-          (λ a p q. ap₂ (λ (x y : ℕ). x + y) (ih a p (omega arith) (omega arith) (omega arith)) (ih (m - a) (omega arith) (omega arith) (omega arith) (omega arith))))
+          ∙ ap (λ (x : ℕ). δ m + x) (least-ext (sumsOf f m) (sumsOf g m) m (splits m) (parts-splits m h)
+          (λ a p q. ap₂ (λ (x y : ℕ). x + y) (ih a p (omega arith) (omega arith)) (ih (m - a) (omega arith) (omega arith) (omega arith))))
           ∙ sym (in-step g m o2)
 
   -- "best = 0 for a single sink"
@@ -68,12 +68,12 @@ module _ (δ : ℕ → ℕ) where
   best-single m o = in-single m m o
 
   -- "otherwise best = d + the least sum of best over the two parts of a split"
-  pub best-split : (m : ℕ) → 0 < m → m < 2 ^ 32 → 2 ≤ ones m → best δ m ≡ δ m + leastOf (λ a. best δ a + best δ (m - a)) (splits m)
-  best-split m h k o =
-      turns m (suc m) m h k (le-refl m) (omega arith)
+  pub best-split : (m : ℕ) → 0 < m → 2 ≤ ones m → best δ m ≡ δ m + leastOf (λ a. best δ a + best δ (m - a)) (splits m)
+  best-split m h o =
+      turns m (suc m) m h (le-refl m) (omega arith)
       ∙ in-step m m o
-      ∙ ap (λ (x : ℕ). δ m + x) (least-ext (sumsOf m m) (λ a. best δ a + best δ (m - a)) m (splits m) (parts-splits m h k)
-      (λ a p q. ap₂ (λ (x y : ℕ). x + y) (turns m a a p (omega arith) (omega arith) (le-refl a)) (turns m (m - a) (m - a) (omega arith) (omega arith) (omega arith) (le-refl (m - a)))))
+      ∙ ap (λ (x : ℕ). δ m + x) (least-ext (sumsOf m m) (λ a. best δ a + best δ (m - a)) m (splits m) (parts-splits m h)
+      (λ a p q. ap₂ (λ (x y : ℕ). x + y) (turns m a a p (omega arith) (le-refl a)) (turns m (m - a) (m - a) (omega arith) (omega arith) (le-refl (m - a)))))
 
 -- ---- a table whose subsets below b are finished holds it
 
@@ -82,15 +82,12 @@ module _ (δ : ℕ → ℕ) (b : ℕ) (small : b ≤ 2 ^ 12) (t : List ℕ) (don
   holds-to zero s l h k = absurd (omega arith)
   holds-to (suc f) s l h k = go (λ x. holds-to f x) (decLt (ones s) 2)
     where
-      k32 : s < 2 ^ 32
-      k32 = let e : s < 2 ^ 12 = le-trans k small in omega arith
-
       sums-are : ((x : ℕ) → x ≤ f → 0 < x → x < b → getD t x 0 ≡ best δ x) → leastOf (λ a. getD t a 0 + getD t (s - a) 0) (splits s) ≡ leastOf (λ a. best δ a + best δ (s - a)) (splits s)
-      sums-are ih = least-ext (λ a. getD t a 0 + getD t (s - a) 0) (λ a. best δ a + best δ (s - a)) s (splits s) (parts-splits s h k32)
+      sums-are ih = least-ext (λ a. getD t a 0 + getD t (s - a) 0) (λ a. best δ a + best δ (s - a)) s (splits s) (parts-splits s h)
           (λ a p q. ap₂ (λ (x y : ℕ). x + y) (ih a (omega arith) p (omega arith)) (ih (s - a) (omega arith) (omega arith) (omega arith)))
 
       scanned : (l : List ℕ) → splits s ≡ l → 2 ≤ ones s → getD t s 0 ≡ δ s + leastOf (λ a. getD t a 0 + getD t (s - a) 0) (splits s)
-      scanned [] e o = absurd (omega (arith, splits-count s h k32, ap length e, pow-mono {i = 2} {j = ones s} o))
+      scanned [] e o = absurd (omega (arith, splits-count s h, ap length e, pow-mono {i = 2} {j = ones s} o))
       scanned (a ∷ l) e o =
           let c : getD t s 0 ≡ min (blankOf s) (δ s + leastOf (λ x. getD t x 0 + getD t (s - x) 0) (a ∷ l)) =
           done .entry s h k ∙ ap (foldl (betterAt (δ s) t s) (blankOf s)) e ∙ fold-least (δ s) t s (blankOf s) a l in
@@ -103,7 +100,7 @@ module _ (δ : ℕ → ℕ) (b : ℕ) (small : b ≤ 2 ^ 12) (t : List ℕ) (don
           omega (arith, z, small-blank (ones s) o, best-single δ s o)
       go ih (no o) =
           let o2 : 2 ≤ ones s = omega arith in
-          scanned (splits s) refl o2 ∙ ap (λ (x : ℕ). δ s + x) (sums-are ih) ∙ sym (best-split δ s h k32 o2)
+          scanned (splits s) refl o2 ∙ ap (λ (x : ℕ). δ s + x) (sums-are ih) ∙ sym (best-split δ s h o2)
 
   -- "finished subsets hold best"
   pub holds-best : (s : ℕ) → 0 < s → s < b → getD t s 0 ≡ best δ s

@@ -33,8 +33,8 @@ parts-down s (suc k) h = go (isPart s (s - suc k)) refl (parts-down s k (omega a
     go true e p = (omega arith, omega arith, part-within s (s - suc k) e, p)
     go false e p = p
 
-pub parts-splits : (s : ℕ) → 0 < s → s < 2 ^ 32 → Parts s (splits s)
-parts-splits s h k = subst (Parts s) (sym (splits-rest s h k)) (parts-down s (s - 2 ^ lowest s) (beyond-lt s h k))
+pub parts-splits : (s : ℕ) → 0 < s → Parts s (splits s)
+parts-splits s h = subst (Parts s) (sym (splits-rest s h)) (parts-down s (s - 2 ^ lowest s) (beyond-lt s h))
 
 -- the least so far, after one more part
 abbrev pub better : (ℕ → ℕ) → List ℕ → ℕ → ℕ → ℕ → ℕ
@@ -58,16 +58,16 @@ fold-set δ t s (a ∷ l) h p =
     ∙ ap (set t s) (ap (λ (x : ℕ). foldl (better δ (set t s (better δ t s (getD t s 0) a)) s) x l) (getD-set-same t s (better δ t s (getD t s 0) a) 0 h) ∙ better-same δ t s (better δ t s (getD t s 0) a) (better δ t s (getD t s 0) a) l (p .3))
 
 -- ---- one turn of the scan of s
-module _ (s : ℕ) (pos : 0 < s) (fits : s < 2 ^ 32) (other left : ℕ) (more : 0 < other) (inside : Sub other (s - 2 ^ lowest s)) (budget : 0 < left) where
+module _ (s : ℕ) (pos : 0 < s) (other left : ℕ) (more : 0 < other) (inside : Sub other (s - 2 ^ lowest s)) (budget : 0 < left) where
   pub scan-count : left - length (down s other) ≡ left - 1 - length (down s (bitAnd (other - 1) (s - 2 ^ lowest s)))
-  scan-count = omega (arith, ap length (down-cons s pos fits other more inside))
+  scan-count = omega (arith, ap length (down-cons s pos other more inside))
 
   pub scan-least : (d : ℕ) (t : List ℕ) (best : ℕ) → foldl (betterAt d t s) best (take left (down s other))
       ≡ foldl (betterAt d t s) (min best (d + getD t (s - other) 0 + getD t other 0)) (take (left - 1) (down s (bitAnd (other - 1) (s - 2 ^ lowest s))))
   scan-least d t best =
       let e : left ≡ suc (left - 1) = omega arith in
       let w : s - (s - other) ≡ other = omega (arith, sub-le other (s - 2 ^ lowest s) inside) in
-      ap₂ (λ (k : ℕ) (l : List ℕ). foldl (betterAt d t s) best (take k l)) e (down-cons s pos fits other more inside)
+      ap₂ (λ (k : ℕ) (l : List ℕ). foldl (betterAt d t s) best (take k l)) e (down-cons s pos other more inside)
       ∙ ap (λ (x : ℕ). foldl (betterAt d t s) (min best (d + getD t (s - other) 0 + getD t x 0)) (take (left - 1) (down s (bitAnd (other - 1) (s - 2 ^ lowest s))))) w
 
 -- ---- the scan of s
@@ -79,10 +79,10 @@ Scan d t s budget other left best =
     × (left - length (down s other) ≡ budget - length (splits s))
     × (foldl (betterAt d t s) best (take left (down s other)) ≡ foldl (betterAt d t s) (getD t s 0) (take budget (splits s)))
 
-module _ (d : ℕ) (t : List ℕ) (s : ℕ) (pos : 0 < s) (fits : s < 2 ^ 32) (budget : ℕ) where
+module _ (d : ℕ) (t : List ℕ) (s : ℕ) (pos : 0 < s) (budget : ℕ) where
   pub scan-start : (rest best : ℕ) → rest ≡ s - 2 ^ lowest s → best ≡ getD t s 0 → Scan d t s budget rest budget best
   scan-start rest best er eb =
-      let e : down s rest ≡ splits s = ap (down s) er ∙ sym (splits-rest s pos fits) in (
+      let e : down s rest ≡ splits s = ap (down s) er ∙ sym (splits-rest s pos) in (
         subst (λ (x : ℕ). Sub x (s - 2 ^ lowest s)) (sym er) (and-self (s - 2 ^ lowest s)),
         ap (λ (l : List ℕ). budget - length l) e,
         ap₂ (λ (v : ℕ) (l : List ℕ). foldl (betterAt d t s) v (take budget l)) eb e,
@@ -93,8 +93,8 @@ module _ (d : ℕ) (t : List ℕ) (s : ℕ) (pos : 0 < s) (fits : s < 2 ^ 32) (b
   scan-turn rest other left best best2 er i ho hl eb =
       subst₂ (λ (r v : ℕ). Scan d t s budget (bitAnd (other - 1) r) (left - 1) v) (sym er) (sym eb) (
         sub-and (s - 2 ^ lowest s) (other - 1),
-        sym (scan-count s pos fits other left ho (i .0) hl) ∙ i .1,
-        sym (scan-least s pos fits other left ho (i .0) hl d t best) ∙ i .2,
+        sym (scan-count s pos other left ho (i .0) hl) ∙ i .1,
+        sym (scan-least s pos other left ho (i .0) hl d t best) ∙ i .2,
       )
 
   pub scan-end : (other left best : ℕ) → Scan d t s budget other left best → (other ≡ 0) ⊎ (left ≡ 0)
@@ -110,8 +110,8 @@ module _ (d : ℕ) (t : List ℕ) (s : ℕ) (pos : 0 < s) (fits : s < 2 ^ 32) (b
   )
 
 -- the steps of s that a budget allows, on the table
-pub subset-is : (δ : ℕ → ℕ) (t : List ℕ) (s budget d p v : ℕ) → 0 < s → s < 2 ^ 32 → s < length t → d ≡ δ s → p ≡ s
+pub subset-is : (δ : ℕ → ℕ) (t : List ℕ) (s budget d p v : ℕ) → 0 < s → s < length t → d ≡ δ s → p ≡ s
     → v ≡ foldl (betterAt d t s) (getD t s 0) (take budget (splits s)) → set t p v ≡ foldl (stepOf δ) t (map (pairUp s) (take budget (splits s)))
-subset-is δ t s budget d p v h k l ed ep ev =
+subset-is δ t s budget d p v h l ed ep ev =
     ap₂ (λ (x y : ℕ). set t x y) ep (ev ∙ ap (λ (x : ℕ). foldl (betterAt x t s) (getD t s 0) (take budget (splits s))) ed)
-    ∙ sym (fold-set δ t s (take budget (splits s)) l (parts-take s budget (splits s) (parts-splits s h k)))
+    ∙ sym (fold-set δ t s (take budget (splits s)) l (parts-take s budget (splits s) (parts-splits s h)))

@@ -11,7 +11,7 @@ use lib.Bits.{bitAnd, and-le-l, and-self}
 use lib.Count.{ones}
 use borrow.Author.Tests.{eq-eqb, eqb-true}
 use Rattle.search.specs.Subsets.{holds, isPart, keep, keepIf, lowest, rising, splits, within}
-use Rattle.search.proofs.Digits.{Sub, gap, left-part, low-le, low-pos, ones-low, part-left, sub-and, sub-le}
+use Rattle.search.proofs.Digits.{Sub, gap, left-part, low-le, low-pos, ones-low, part-left, self-lt, sub-and, sub-le}
 use Rattle.search.proofs.Rank.{rank, rank-next, rank-self, rank-zero}
 
 -- the splits among s - k, .., s - 1
@@ -54,25 +54,25 @@ pub part-within : (s a : ℕ) → isPart s a ≡ true → Sub a s
 unfolding isPart
 part-within s a e = eqb-true (bitAnd a s) a (and-both (within a s) (holds a (lowest s)) e .0)
 
-module _ (s : ℕ) (pos : 0 < s) (fits : s < 2 ^ 32) where
+module _ (s : ℕ) (pos : 0 < s) where
   -- what is left of s without its lowest sink
   abbrev rest : ℕ
   rest = s - 2 ^ lowest s
 
   rest-lt : rest < s
-  rest-lt = omega (arith, low-le 32 s pos fits, low-pos 32 s)
+  rest-lt = omega (arith, low-le s s pos (self-lt s), low-pos s s)
 
   pub is-part : (x : ℕ) → Sub x rest → isPart s (s - x) ≡ true
   unfolding isPart
   is-part x u =
-      let j = left-part 32 s x pos fits u in
+      let j = left-part s s x pos (self-lt s) u in
       ap₂ (λ (a b : Bool). a && b) (eq-eqb (bitAnd (s - x) s) (s - x) (j .0)) (eq-eqb ((s - x) / 2 ^ lowest s % 2) 1 (j .1))
 
   is-left : (z : ℕ) → z ≤ s → isPart s (s - z) ≡ true → Sub z rest
   unfolding isPart
   is-left z h e =
       let j = and-both (within (s - z) s) (holds (s - z) (lowest s)) e in
-      subst (λ (y : ℕ). Sub y rest) (omega arith) (part-left 32 s (s - z) pos fits (eqb-true (bitAnd (s - z) s) (s - z) (j .0)) (eqb-true ((s - z) / 2 ^ lowest s % 2) 1 (j .1)))
+      subst (λ (y : ℕ). Sub y rest) (omega arith) (part-left s s (s - z) pos (self-lt s) (eqb-true (bitAnd (s - z) s) (s - z) (j .0)) (eqb-true ((s - z) / 2 ^ lowest s % 2) 1 (j .1)))
 
   not-part : (z : ℕ) → z ≤ s → (Sub z rest → ⊥) → isPart s (s - z) ≡ false
   not-part z h f = go (isPart s (s - z)) refl
@@ -94,20 +94,20 @@ module _ (s : ℕ) (pos : 0 < s) (fits : s < 2 ^ 32) where
       down-keep s x (is-part (suc x) u)
       ∙ ap (λ (l : List ℕ). (s - suc x) ∷ l) (skip s (bitAnd (suc x - 1) rest) x y≤ (λ z a b. not-part z (omega (arith, rest-lt)) (λ v. lt-irrefl z (lt-of-le-of-lt (gap rest (suc x) z u v (omega arith)) a))))
 
-  pub down-length : (f x : ℕ) → x ≤ f → Sub x rest → length (down s x) ≡ rank 32 rest x
+  pub down-length : (f x : ℕ) → x ≤ f → Sub x rest → length (down s x) ≡ rank s rest x
   unfolding down
-  down-length zero x h u = ap (λ (y : ℕ). length (down s y)) (let e : x ≡ 0 = omega arith in e) ∙ sym (rank-zero 32 rest) ∙ ap (rank 32 rest) (let e : 0 ≡ x = omega arith in e)
-  down-length (suc f) zero h u = sym (rank-zero 32 rest)
+  down-length zero x h u = ap (λ (y : ℕ). length (down s y)) (let e : x ≡ 0 = omega arith in e) ∙ sym (rank-zero s rest) ∙ ap (rank s rest) (let e : 0 ≡ x = omega arith in e)
+  down-length (suc f) zero h u = sym (rank-zero s rest)
   down-length (suc f) (suc x) h u =
       ap length (down-cons (suc x) (omega arith) u)
       ∙ ap suc (down-length f (bitAnd (suc x - 1) rest) (omega (arith, and-le-l (suc x - 1) rest)) (sub-and rest (suc x - 1)))
-      ∙ sym (rank-next 32 rest (suc x) u (omega arith) (omega (arith, rest-lt)))
+      ∙ sym (rank-next s rest (suc x) u (omega arith) (omega (arith, rest-lt, self-lt s)))
 
   -- how many splits
   pub splits-count : 2 * suc (length (splits s)) ≡ 2 ^ ones s
   splits-count =
       ap (λ (l : List ℕ). 2 * suc (length l)) splits-rest
       ∙ ap (λ (k : ℕ). 2 * suc k) (down-length rest rest (le-refl rest) (and-self rest))
-      ∙ ap (λ (k : ℕ). 2 * k) (rank-self 32 rest (omega (arith, rest-lt)))
+      ∙ ap (λ (k : ℕ). 2 * k) (rank-self s rest (omega (arith, rest-lt, self-lt s)))
       ∙ sym (pow-succ' 2 (ones rest))
-      ∙ ap (λ (k : ℕ). 2 ^ k) (sym (ones-low 32 s pos fits))
+      ∙ ap (λ (k : ℕ). 2 ^ k) (sym (ones-low s s pos (self-lt s)))

@@ -4,11 +4,11 @@ use Prim.Native.Nat.{ℕ, _-_, _*_, _^_}
 use lib.Dec.{ltb}
 use lib.IntN.{ℤ}
 use lib.ListN.{length}
-use Rattle.plane.specs.Refusals.{refuseIf}
+use Rattle.plane.specs.Refusals.{refuseIf, andThen}
 use Rattle.plane.specs.Sinks.{checkSinks}
 use Rattle.plane.specs.declared.refusal.Refusal.the-variants.{Room}
 use Rattle.plane.specs.declared.refusal.Checked.{Checked}
-use Rattle.embedding.specs.Embedding.{andThen, checkRoom}
+use Rattle.embedding.specs.Embedding.{checkRoom}
 
 -- "a lent buffer is shorter than what the answer fills in it, the work table than 2^n": n sinks, and the rooms for the table, the pairs, U, V and wires
 unfoldable pub checkRooms : ℕ → ℕ → ℕ → ℕ → ℕ → ℕ → Checked

@@ -34,9 +34,9 @@ sinksIn n m = keep (holds m) (rising n 0)
 unfoldable pub diam : Sinks → ℕ → ℕ
 diam s m = diameter s (sinksIn (s .n) m)
 
--- the lowest sink of a subset
+-- the lowest sink of a subset, which is how many zeros stand below its lowest one (m has no more than m digits)
 abbrev pub lowest : ℕ → ℕ
-lowest m = trailingZeros 32 m
+lowest m = trailingZeros m m
 
 -- each sink of a is in m
 abbrev pub within : ℕ → ℕ → Bool

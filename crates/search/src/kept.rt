@@ -31,7 +31,7 @@ fn kept(q: [[u32; 12]; 12], table: &[u32], s: u32) -> u32
 
 // The node of a subset of n sinks, where `made` joins are made once it is joined.
 fn node(s: u32, n: usize, made: usize) -> u16
-    requires { ⌜ (0 < n) × (n ≤ 12) × (made ≤ 12) ⌝ }
+    requires { ⌜ (0 < s) × (0 < n) × (n ≤ 12) × (made ≤ 12) ⌝ }
     ensures { λ r. ⌜ r ≡ nodeOf n s made ⌝ }
 {
     if u32::count_ones(s) < 2 {

@@ -60,7 +60,7 @@ fn search_joins(xs: &[i32], ys: &[i32], budget: u64, table: &mut [u32], js: &mut
 }
 
 // The search, where the sinks were checked and the buffers have room.
-fn search_sound(
+pub fn search_sound(
     xs: &[i32],
     ys: &[i32],
     budget: u64,

@@ -20,6 +20,7 @@ pub fn place(s: u32) -> usize
 
 // The lowest sink of s.
 pub fn first(s: u32) -> usize
+    requires { ⌜ 0 < s ⌝ }
     ensures { λ r. ⌜ r ≡ lowest s ⌝ }
 {
     u32::trailing_zeros(s) as usize

@@ -5,7 +5,7 @@ use Prim.Native.Nat.{ℕ}
 use lib.IntN.{ℤ}
 use lib.ListN.{length}
 use Rattle.plane.specs.declared.refusal.Checked.{Checked}
-use Rattle.embedding.specs.Embedding.{andThen}
+use Rattle.plane.specs.Refusals.{andThen}
 use Rattle.house.specs.Writing as writing
 use Rattle.house.specs.Writing.{roomFor, writtenAfter}
 use Rattle.house.specs.Reading as reading

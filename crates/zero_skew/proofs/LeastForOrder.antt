@@ -10,14 +10,13 @@ use Rattle.lists.proofs.Tests.{or-lt}
 use Rattle.zero_skew.specs.Plane.{Sinks}
 use Rattle.zero_skew.specs.Box.{diameter}
 use Rattle.zero_skew.specs.Tree.{Tree, leaf, join, leaves, count, wire, ZeroSkew}
-use Rattle.zero_skew.specs.Order.{Order, sinksOf, sums, order, embedded, Over, halves, Alike}
+use Rattle.zero_skew.specs.Order.{Order, sinksOf, sums, order, Over, halves, Alike}
 use Rattle.zero_skew.specs.DeferredMerge.{DME}
 use Rattle.zero_skew.proofs.Lemma1.{diam-within}
 use Rattle.zero_skew.proofs.Count.{count-in, in-count}
 use Rattle.zero_skew.proofs.Sums.{waits-all}
 use Rattle.zero_skew.proofs.Bound.{diameters, at-least}
 use Rattle.zero_skew.proofs.Alike.{alike-sums}
-use Rattle.zero_skew.proofs.Embedding.{embedded-wire}
 use Rattle.zero_skew.proofs.Outcomes.{outcome-wire}
 
 pub order-sinks : (t : Tree) → sinksOf (order t) ≡ leaves t
@@ -49,10 +48,6 @@ module _ (s : Sinks) where
           mul-le-mul-left {m = sums s o + diameter s (sinksOf o)} {n = diameters s t + diameter s (leaves t)} k
               (omega (arith, within (sinksOf o) (leaves t) (over .no-other) (λ i h. omega (arith, z .once i h)))),
         ))
-
-    -- the same against the order's own tree: two wires, of which one counts quarters and the other 1/k
-    pub shorter-than : (k : ℕ) (t : Tree) → ZeroSkew s k t → sums s o ≤ diameters s t → k * wire (embedded s o) ≤ 4 * wire t
-    shorter-than k t z less = rw (embedded-wire s o over, mul-left-comm k 2 (halves s o)) (omega (arith, half-units k t z less))
 
     -- NO ZERO-SKEW TREE WITH THIS JOINING ORDER is shorter
     pub least-for-order : (k : ℕ) (t : Tree) → ZeroSkew s k t → Alike (order t) o → k * halves s o ≤ 2 * wire t

@@ -6,7 +6,7 @@ use lib.IntN.{ℤ}
 use lib.ListN.{length}
 use Rattle.plane.specs.Sinks.{sinksAt}
 use Rattle.nearest.specs.Calls.{orderAt}
-use Rattle.nearest.specs.Ready.{CanBuild, Trees}
+use Rattle.nearest.specs.Ready.{Trees}
 use Rattle.nearest.proofs.Validity.{order-valid}
 use Rattle.lines.proofs.Fronts.{Built, built-grown, built-text}
 use borrow.Author.Needs.{needs}

@@ -1,12 +1,11 @@
 -- The cycle of calls {number}: the measure is the number itself, which loses its last digit at each call.
-use mathlib.Core.Path.{_≡_, sym, _∙_}
-use mathlib.Core.List.{[], _∷_}
-use Prim.Native.Nat.{ℕ, _<_, _≤_, _+_, _/_, _%_}
+use mathlib.Core.Path.{_∙_}
+use Prim.Native.Nat.{ℕ, _<_, _+_}
 use native.Mathlib.Omega.{arith}
-use lib.ListN.{length, length-append}
+use lib.ListN.{length-append}
 use borrow.Fn.Kinds.{In}
 use borrow.Fn.PlainCycle.{Measures, is, falls, and}
-use Rattle.lines.specs.Decimal.{decimal, digit}
+use Rattle.lines.specs.Decimal.{digit}
 use Rattle.lines.proofs.Decimal.{decimal-one, decimal-more, decimal-some}
 use Rattle.lines.proofs.Written.{then}
 use Rattle.lines.proofs.write.number.Reads as number

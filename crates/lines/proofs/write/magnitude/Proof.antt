@@ -1,9 +1,6 @@
 use borrow.Author.Needs.{needs}
-use lib.IntN.{ℤ, pos, natAbs, _-ℤ_}
-use mathlib.Core.Path.{_≡_, refl}
 use mir.Facts.{toZ-ofZ, sfits-widen}
 use mir.Syntax.{w32, w64}
-use mir.Val.{SFits}
 use Rattle.lines.proofs.Signed.{from-zero, not-low, abs-fits, abs-sfits}
 use Rattle.lines.proofs.write.magnitude.Statement.{statement}
 use Rattle.lines.proofs.write.magnitude.Tie as tie

@@ -19,13 +19,10 @@ Inv-loop table d s budget rest other₀ left₀ best₀ other left best = Scan d
 abbrev μ-loop : tie.MeasureT-loop
 μ-loop table d s budget rest other₀ left₀ best₀ other left best = other
 
-small : (c : tie.Start Inv-loop μ-loop) → c .args .s < 2 ^ 32
-small c = omega arith
-
 below : (c : tie.At-loop Inv-loop μ-loop) → c .loop .other < c .before .before .before .before .before .args .s
 below c =
     let z = c .before .before .before .before .before in
-    omega (arith, sub-le (c .loop .other) (z .args .s - 2 ^ lowest (z .args .s)) (c .loop .inv .0), beyond-lt (z .args .s) (z .pre .0) (small z))
+    omega (arith, sub-le (c .loop .other) (z .args .s - 2 ^ lowest (z .args .s)) (c .loop .inv .0), beyond-lt (z .args .s) (z .pre .0))
 
 beyond-requires : tie.Need-beyond-requires Inv-loop μ-loop
 beyond-requires c κs = c .before .pre .0
@@ -42,7 +39,7 @@ shared-slice-read-best c = search needs
 loop-holds : tie.Need-loop-holds Inv-loop μ-loop
 loop-holds c =
     let z = c .before .before .before .before in
-    scan-start (z .args .d) (z .args .table .now) (z .args .s) (z .pre .0) (small z) (z .args .budget) (c .before .before .beyond .result)
+    scan-start (z .args .d) (z .args .table .now) (z .args .s) (z .pre .0) (z .args .budget) (c .before .before .beyond .result)
     (getD (z .args .table .now) (c .before .place .result) 0) (c .before .before .beyond .ensures) (ap (λ (x : ℕ). getD (z .args .table .now) x 0) (c .before .place .ensures))
 
 cost-requires : tie.Need-cost-requires Inv-loop μ-loop
@@ -77,20 +74,20 @@ loop-again c =
     let l = c .before .before .before .before .before .loop in
     let b = c .before .before .before .before .before .before .before .before .beyond in
     let z = c .before .before .before .before .before .before .before .before .before .before in
-    scan-turn (z .args .d) (z .args .table .now) (z .args .s) (z .pre .0) (small z) (z .args .budget) (b .result) (l .other) (l .left) (l .best) (c .if2 .best)
+    scan-turn (z .args .d) (z .args .table .now) (z .args .s) (z .pre .0) (z .args .budget) (b .result) (l .other) (l .left) (l .best) (c .if2 .best)
     (b .ensures) (l .inv) (omega arith) (omega arith) (best-is c ∙ ap (λ (x : ℕ). min (l .best) x) (c .before .before .cost .ensures))
 
 returns : tie.Need-returns Inv-loop μ-loop
 returns c =
     let l = c .before .loop in
     let z = c .before .before .before .before .before .before in
-    scan-end (z .args .d) (z .args .table .now) (z .args .s) (z .pre .0) (small z) (z .args .budget) (l .other) (l .left) (l .best) (l .inv) (inl (omega arith))
+    scan-end (z .args .d) (z .args .table .now) (z .args .s) (z .pre .0) (z .args .budget) (l .other) (l .left) (l .best) (l .inv) (inl (omega arith))
 
 returns-2 : tie.Need-returns-2 Inv-loop μ-loop
 returns-2 c =
     let l = c .before .before .loop in
     let z = c .before .before .before .before .before .before .before in
-    scan-end (z .args .d) (z .args .table .now) (z .args .s) (z .pre .0) (small z) (z .args .budget) (l .other) (l .left) (l .best) (l .inv) (inr (c .if1 .taken))
+    scan-end (z .args .d) (z .args .table .now) (z .args .s) (z .pre .0) (z .args .budget) (l .other) (l .left) (l .best) (l .inv) (inr (c .if1 .taken))
 
 pub examine-spec : {M : Type 1} → statement M
 examine-spec =

@@ -63,9 +63,8 @@ returns c =
     let l = c .before .loop in
     let z = c .before .before .before .before .before .before .before .before in
     let k = c .before .before .before .before .before .clear in
-    let n12 : z .args .n ≤ 32 = omega arith in
-    let e = fill-end (widest (z .args .q)) (z .args .n) (z .args .budget) (k .last .0) (l .s) (l .left) (l .table) (z .args .table .now) n12 (omega arith) (k .ensures) (l .inv .4) in
-    (e .0 ∙ ap (min (z .args .budget)) (steps-count (z .args .n) n12), e .1)
+    let e = fill-end (widest (z .args .q)) (z .args .n) (z .args .budget) (k .last .0) (l .s) (l .left) (l .table) (z .args .table .now) (omega arith) (k .ensures) (l .inv .4) in
+    (e .0 ∙ ap (min (z .args .budget)) (steps-count (z .args .n)), e .1)
 
 pub fill-spec : {M : Type 1} → statement M
 fill-spec =

@@ -1,5 +1,4 @@
 -- `search::fill_subset` meets its contract.
-use native.Mathlib.Omega.{arith}
 use borrow.Author.Needs.{needs}
 use Rattle.search.specs.Square.{widest}
 use Rattle.search.proofs.Scan.{subset-is}
@@ -30,7 +29,7 @@ returns c =
     let f = c .before .examine in (
       f .ensures .0,
       subset-is (widest (z .args .q)) (z .args .table .now) (z .args .s) (z .args .budget) (c .before .before .diameter .result) (c .place .result) (f .result .least)
-          (z .pre .0) (omega arith) (z .pre .2) (c .before .before .diameter .ensures) (c .place .ensures) (f .ensures .1),
+          (z .pre .0) (z .pre .2) (c .before .before .diameter .ensures) (c .place .ensures) (f .ensures .1),
     )
 
 pub fill-subset-spec : {M : Type 1} → statement M

@@ -1,6 +1,6 @@
 -- The proof of the cycle of calls {joins}. The measure is the subset's number.
 use mathlib.Core.Path.{_≡_, sym, ap, _∙_}
-use Prim.Native.Nat.{ℕ, _<_, _+_, _-_, _*_, _^_}
+use Prim.Native.Nat.{ℕ, _<_, _+_, _-_, _*_}
 use native.Mathlib.Omega.{arith}
 use lib.Seq.{sets}
 use lib.Count.{ones}
@@ -26,18 +26,15 @@ joins-at t = and 2 joins-kinds.ps (is 2 joins-kinds.ps μ-joins t) joins.Pre
 abbrev joins-below : ℕ → In 2 joins-kinds.ps
 joins-below t = and 2 joins-kinds.ps (falls 2 joins-kinds.ps _<_ μ-joins t) joins.Pre
 
-small : (t : ℕ) (c : joins-lts.Start (kept-reads.Asked, kept-reads.Learnt, joins-below t, joins.Post, node-reads.Asked, node-reads.Learnt, put-reads.Asked, put-reads.Learnt) (joins-at t) joins.Post) → c .args .s < 2 ^ 32
-small t c = omega (arith, c .pre .1 .3)
-
 facts : (t : ℕ) (c : joins-lts.After-kept (kept-reads.Asked, kept-reads.Learnt, joins-below t, joins.Post, node-reads.Asked, node-reads.Learnt, put-reads.Asked, put-reads.Learnt) (joins-at t) joins.Post) → (0 < c .kept .result) × (c .kept .result < c .before .before .before .before .args .s) × (0 < ones (c .kept .result)) × (0 < ones (c .before .before .before .before .args .s - c .kept .result)) × (ones (c .kept .result) + ones (c .before .before .before .before .args .s - c .kept .result) ≡ ones (c .before .before .before .before .args .s))
 facts t c =
     let z = c .before .before .before .before in
-    join-facts (widest (z .args .q)) (z .args .table .now) (z .args .n) (z .args .s) (z .args .made) (z .pre .1 .2) (small t z) (c .before .if1 .left) (c .kept .result) (c .kept .ensures)
+    join-facts (widest (z .args .q)) (z .args .table .now) (z .args .n) (z .args .s) (z .args .made) (z .pre .1 .2) (c .before .if1 .left) (c .kept .result) (c .kept .ensures)
 
 joins-returns : (t : ℕ) → joins-lts.Need-returns (kept-reads.Asked, kept-reads.Learnt, joins-below t, joins.Post, node-reads.Asked, node-reads.Learnt, put-reads.Asked, put-reads.Learnt) (joins-at t) joins.Post
 joins-returns t c =
     let a = c .before .before .before .args in
-    (omega (arith, c .if1 .taken), ap (sets (a .out .now) (2 * a .made)) (sym (joins-none (widest (a .q)) (a .table .now) (a .n) (a .s) (a .made) (c .before .before .before .pre .1 .2) (small t (c .before .before .before)) (c .if1 .taken))))
+    (omega (arith, c .if1 .taken), ap (sets (a .out .now) (2 * a .made)) (sym (joins-none (widest (a .q)) (a .table .now) (a .n) (a .s) (a .made) (c .before .before .before .pre .1 .2) (c .if1 .taken))))
 
 joins-kept-requires : (t : ℕ) → joins-lts.Need-kept-requires (kept-reads.Asked, kept-reads.Learnt, joins-below t, joins.Post, node-reads.Asked, node-reads.Learnt, put-reads.Asked, put-reads.Learnt) (joins-at t) joins.Post
 joins-kept-requires t c κs = let p = c .before .before .before .pre .1 in (p .2, p .3, p .4)
@@ -74,13 +71,13 @@ joins-node-requires : (t : ℕ) → joins-lts.Need-node-requires (kept-reads.Ask
 joins-node-requires t c κs =
     let f = facts t (c .before .before .before .before .before .before .before .before .before) in
     let q = c .before .before .before .before .before .before .before .before .before .before .before .before .before .pre .1 in
-    (q .0, q .1, omega (arith, f .2, f .3, f .4, q .5, c .before .before .before .before .before .before .before .joins .ensures .0))
+    (f .0, q .0, q .1, omega (arith, f .2, f .3, f .4, q .5, c .before .before .before .before .before .before .before .joins .ensures .0))
 
 joins-node-requires-2 : (t : ℕ) → joins-lts.Need-node-requires-2 (kept-reads.Asked, kept-reads.Learnt, joins-below t, joins.Post, node-reads.Asked, node-reads.Learnt, put-reads.Asked, put-reads.Learnt) (joins-at t) joins.Post
 joins-node-requires-2 t c κs =
     let f = facts t (c .before .before .before .before .before .before .before .before .before .before) in
     let q = c .before .before .before .before .before .before .before .before .before .before .before .before .before .before .pre .1 in
-    (q .0, q .1, omega (arith, f .2, f .3, f .4, q .5, c .before .before .before .before .before .before .before .before .joins .ensures .0, c .before .before .before .before .joins2 .ensures .0))
+    (omega (arith, f .1), q .0, q .1, omega (arith, f .2, f .3, f .4, q .5, c .before .before .before .before .before .before .before .before .joins .ensures .0, c .before .before .before .before .joins2 .ensures .0))
 
 joins-put-requires : (t : ℕ) → joins-lts.Need-put-requires (kept-reads.Asked, kept-reads.Learnt, joins-below t, joins.Post, node-reads.Asked, node-reads.Learnt, put-reads.Asked, put-reads.Learnt) (joins-at t) joins.Post
 joins-put-requires t c κs =
@@ -108,7 +105,7 @@ joins-returns-2 t c =
     let j = c .before .before .before .before .before .before .before .before .before .before .before .before .joins in
     let k = c .before .before .before .before .before .before .before .before .joins2 in (
       omega (arith, f .2, f .3, f .4, j .ensures .0, k .ensures .0),
-      join-write (widest (z .args .q)) (z .args .table .now) (z .args .n) (z .args .s) (z .args .made) (z .pre .1 .2) (small t z) (c .before .before .before .before .before .before .before .before .before .before .before .before .before .before .before .if1 .left)
+      join-write (widest (z .args .q)) (z .args .table .now) (z .args .n) (z .args .s) (z .args .made) (z .pre .1 .2) (c .before .before .before .before .before .before .before .before .before .before .before .before .before .before .before .if1 .left)
           (c .before .before .before .before .before .before .before .before .before .before .before .before .before .before .kept .result) (j .result) (k .result) (z .args .out .now) (j .last .1 .1 .1 .1 .0) (k .last .1 .1 .1 .1 .0) (c .before .before .put .last .0) (c .before .before .before .before .node .result) (c .before .before .before .node2 .result)
           (c .before .before .before .before .before .before .before .before .before .before .before .before .before .before .kept .ensures) (j .ensures .0) (k .ensures .0) (j .ensures .1) (k .ensures .1) (c .before .before .before .before .node .ensures) (c .before .before .before .node2 .ensures) (c .before .before .put .ensures),
     )

@@ -8,7 +8,7 @@ use lib.Bits.{bitAnd, and-le-l, and-self}
 use Rattle.search.specs.Kept.{keptPart}
 use Rattle.search.specs.Square.{widest}
 use Rattle.search.specs.Subsets.{lowest}
-use Rattle.search.proofs.Digits.{Sub, low-le, sub-and, sub-le}
+use Rattle.search.proofs.Digits.{Sub, low-le, self-lt, sub-and, sub-le}
 use Rattle.search.proofs.KeptParts.{found, kept-hit, kept-miss, kept-none, kept-start}
 use Rattle.search.proofs.Lowest.{beyond-lt}
 use Rattle.search.proofs.kept.kept.Statement.{statement}
@@ -20,13 +20,10 @@ Inv-loop table s d rest goal other₀ other = Sub other (s - 2 ^ lowest s) × (f
 abbrev μ-loop : tie.MeasureT-loop
 μ-loop table s d rest goal other₀ other = other
 
-small : (c : tie.Start Inv-loop μ-loop) → c .args .s < 2 ^ 32
-small c = omega arith
-
 below : (c : tie.At-loop Inv-loop μ-loop) → c .loop .other < c .before .before .before .before .before .before .before .args .s
 below c =
     let z = c .before .before .before .before .before .before .before in
-    omega (arith, sub-le (c .loop .other) (z .args .s - 2 ^ lowest (z .args .s)) (c .loop .inv .0), beyond-lt (z .args .s) (z .pre .0) (small z))
+    omega (arith, sub-le (c .loop .other) (z .args .s - 2 ^ lowest (z .args .s)) (c .loop .inv .0), beyond-lt (z .args .s) (z .pre .0))
 
 -- what the scan finds where it begins
 begins : (c : tie.At-loop Inv-loop μ-loop)
@@ -34,7 +31,7 @@ begins : (c : tie.At-loop Inv-loop μ-loop)
     ≡ keptPart (widest (c .before .before .before .before .before .before .before .args .q)) (c .before .before .before .before .before .before .before .args .table .now) (c .before .before .before .before .before .before .before .args .s)
 begins c =
     let z = c .before .before .before .before .before .before .before in
-    kept-start (c .before .before .before .before .before .diameter .result) (z .args .table .now) (z .args .s) (c .before .wide .result) (z .pre .0) (small z) (widest (z .args .q))
+    kept-start (c .before .before .before .before .before .diameter .result) (z .args .table .now) (z .args .s) (c .before .wide .result) (z .pre .0) (widest (z .args .q))
     (c .before .before .before .before .beyond .result) (c .before .before .before .before .before .diameter .ensures)
     (c .before .wide .ensures .0 ∙ ap (λ (x : ℕ). getD (z .args .table .now) x 0) (c .before .before .before .place .ensures))
     (c .before .before .before .before .beyond .ensures)
@@ -75,7 +72,7 @@ returns c =
     let l = c .before .before .before .loop in
     let z = c .before .before .before .before .before .before .before .before .before .before in
     sym
-    (kept-hit (c .before .before .before .before .before .before .before .before .diameter .result) (z .args .table .now) (z .args .s) (c .before .before .before .before .wide .result) (z .pre .0) (small z)
+    (kept-hit (c .before .before .before .before .before .before .before .before .diameter .result) (z .args .table .now) (z .args .s) (c .before .before .before .before .wide .result) (z .pre .0)
     (l .other) (omega arith) (l .inv .0) (sym (c .before .cost .ensures) ∙ c .if1 .taken))
     ∙ l .inv .1
     ∙ begins (c .before .before .before)
@@ -95,7 +92,7 @@ loop-again c =
     let g = c .before .before .before .before .wide .result in (
       subst (λ (r : ℕ). Sub (bitAnd (l .other - 1) r) (z .args .s - 2 ^ lowest (z .args .s))) (sym (b .ensures)) (sub-and (z .args .s - 2 ^ lowest (z .args .s)) (l .other - 1)),
       ap (λ (r : ℕ). found d (z .args .table .now) (z .args .s) g (bitAnd (l .other - 1) r)) (b .ensures)
-          ∙ sym (kept-miss d (z .args .table .now) (z .args .s) g (z .pre .0) (small z) (l .other) (omega arith) (l .inv .0) (λ e. c .if1 .left (c .before .cost .ensures ∙ e)))
+          ∙ sym (kept-miss d (z .args .table .now) (z .args .s) g (z .pre .0) (l .other) (omega arith) (l .inv .0) (λ e. c .if1 .left (c .before .cost .ensures ∙ e)))
           ∙ l .inv .1,
     )
 
@@ -109,8 +106,8 @@ returns-2 c =
     let d = c .before .before .before .before .before .before .diameter .result in
     let g = c .before .before .wide .result in
     let e : l .other ≡ 0 = omega arith in
-    omega (arith, c .before .before .before .before .before .beyond .ensures, low-le 32 (z .args .s) (z .pre .0) (small z))
-    ∙ sym (kept-none d (z .args .table .now) (z .args .s) g (z .pre .0) (small z))
+    omega (arith, c .before .before .before .before .before .beyond .ensures, low-le (z .args .s) (z .args .s) (z .pre .0) (self-lt (z .args .s)))
+    ∙ sym (kept-none d (z .args .table .now) (z .args .s) g (z .pre .0))
     ∙ ap (found d (z .args .table .now) (z .args .s) g) (sym e)
     ∙ l .inv .1
     ∙ begins (c .before)

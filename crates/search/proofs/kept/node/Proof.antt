@@ -3,11 +3,12 @@ use mathlib.Core.Bool.{Bool, cond}
 use mathlib.Core.Path.{ap, sym, _∙_}
 use Prim.Native.Nat.{_-_, _+_}
 use native.Mathlib.Omega.{arith}
-use lib.Count.{ones, trailing-le}
+use lib.Count.{ones}
 use borrow.Author.Tests.{lt-ltb, le-ltb}
 use borrow.Author.Needs.{needs}
 use Rattle.search.specs.Kept.{nodeOf}
 use Rattle.search.specs.Subsets.{lowest}
+use Rattle.search.proofs.Lowest.{lowest-lt}
 use Rattle.search.proofs.kept.node.Statement.{statement}
 use Rattle.search.proofs.kept.node.Tie as tie
 
@@ -15,7 +16,9 @@ first-requires : tie.Need-first-requires
 first-requires c κs = search needs
 
 cast-result : tie.Need-cast-result
-cast-result c = omega (arith, c .first .ensures, trailing-le 32 (c .before .before .args .s))
+cast-result c =
+    let z = c .before .before in
+    omega (arith, c .first .ensures, lowest-lt 32 (z .args .s) (z .pre .0) (z .fits .s .fits))
 
 add-result : tie.Need-add-result
 add-result c = search needs

@@ -1,9 +1,9 @@
 use mathlib.Core.Path.{_≡_, ap, _∙_}
-use Prim.Native.Nat.{ℕ, _≤_, _<_, _^_, _-_}
+use Prim.Native.Nat.{ℕ, _≤_, _^_, _-_}
 use native.Mathlib.Omega.{arith}
-use lib.ListN.{length, length-take}
+use lib.ListN.{length-take}
 use lib.Count.{ones, ones-ones}
-use lib.Pow.{pow-mono, pow-pos}
+use lib.Pow.{pow-mono}
 use borrow.Author.Needs.{needs}
 use Rattle.search.specs.Square.{widest}
 use Rattle.search.proofs.KeptJoins.{kept-written}

@@ -3,7 +3,6 @@ use mathlib.Core.Path.{_≡_, ap}
 use mathlib.Core.List.{List, []}
 use Prim.Native.Nat.{ℕ, _≤_, _<_, _-_, _^_, max}
 use native.Mathlib.Omega.{arith}
-use borrow.Author.Needs.{needs}
 use lib.ListN.{getD}
 use Rattle.search.specs.Square.{farthestOf, widest}
 use Rattle.search.specs.Subsets.{lowest, sinksIn}
@@ -36,7 +35,7 @@ after-beyond : (c : tie.After-beyond Inv-loop μ-loop) → (c .beyond .result < 
 after-beyond c =
     let l = c .before .before .before .loop .left in
     let j = in-turn (c .before .before) in
-    (omega (arith, beyond-lt l (j .0) (j .2)), omega (arith, c .before .first .ensures, lowest-lt 12 l (j .0) (j .2) (j .1)))
+    (omega (arith, beyond-lt l (j .0)), omega (arith, c .before .first .ensures, lowest-lt 12 l (j .0) (j .1)))
 
 again : (c : tie.After-farthest Inv-loop μ-loop) (most2 : ℕ) → most2 ≡ max (c .before .before .before .before .before .loop .most) (c .farthest .result)
     → (c .before .before .beyond .result ≤ c .before .before .before .before .before .before .args .s)
@@ -54,7 +53,7 @@ loop-holds : tie.Need-loop-holds Inv-loop μ-loop
 loop-holds c = omega arith
 
 first-requires : tie.Need-first-requires Inv-loop μ-loop
-first-requires c κs = search needs
+first-requires c κs = omega arith
 
 beyond-requires : tie.Need-beyond-requires Inv-loop μ-loop
 beyond-requires c κs = omega arith

@@ -1,7 +1,6 @@
-use mathlib.Core.Path.{sym, ap, ap₂, _∙_}
+use mathlib.Core.Path.{ap, _∙_}
 use denote.Ref.{now}
 use borrow.Author.Needs.{needs}
-use Rattle.plane.specs.declared.boxes.Box.{Box}
 use Rattle.plane.specs.Boxes.{diamOf}
 use Rattle.search.proofs.Rows.{pair-box}
 use Rattle.search.proofs.square.distance.Statement.{statement}

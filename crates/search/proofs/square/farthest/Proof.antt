@@ -4,7 +4,6 @@ use mathlib.Core.Logic.{⊎-elim}
 use mathlib.Core.List.{List}
 use Prim.Native.Nat.{ℕ, _≤_, _<_, _-_, _^_, max}
 use native.Mathlib.Omega.{arith}
-use borrow.Author.Needs.{needs}
 use lib.ListN.{getD}
 use Rattle.search.specs.Square.{farthestOf}
 use Rattle.search.specs.Subsets.{lowest, sinksIn}
@@ -30,13 +29,13 @@ in-turn c = (omega arith, omega arith, omega arith)
 index : (c : tie.After-first Inv-loop μ-loop) → c .first .result < 12
 index c =
     let j = in-turn (c .before) in
-    omega (arith, c .first .ensures, lowest-lt 12 (c .before .before .loop .left) (j .0) (j .2) (j .1))
+    omega (arith, c .first .ensures, lowest-lt 12 (c .before .before .loop .left) (j .0) (j .1))
 
 loop-holds : tie.Need-loop-holds Inv-loop μ-loop
 loop-holds c = omega arith
 
 first-requires : tie.Need-first-requires Inv-loop μ-loop
-first-requires c κs = search needs
+first-requires c κs = omega arith
 
 mul-d : tie.Need-mul-d Inv-loop μ-loop
 mul-d c = omega (arith, index c)
@@ -50,7 +49,7 @@ beyond-requires c κs = omega arith
 loop-less : tie.Need-loop-less Inv-loop μ-loop
 loop-less c =
     let j = in-turn (c .before .before .before) in
-    omega (arith, beyond-lt (c .before .before .before .before .loop .left) (j .0) (j .2))
+    omega (arith, beyond-lt (c .before .before .before .before .loop .left) (j .0))
 
 loop-again : tie.Need-loop-again Inv-loop μ-loop
 loop-again c =

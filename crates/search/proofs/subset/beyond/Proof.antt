@@ -1,8 +1,8 @@
 -- `search::beyond` meets its contract.
 use native.Mathlib.Omega.{arith}
 use Prim.Native.Nat.{_<_, _^_}
-use Rattle.search.proofs.Digits.{low-le}
-use Rattle.search.proofs.Lowest.{lowest-lt, shl-one}
+use Rattle.search.proofs.Digits.{low-le, self-lt}
+use Rattle.search.proofs.Lowest.{lowest-is, lowest-lt, shl-one}
 use Rattle.search.proofs.subset.beyond.Statement.{statement}
 use Rattle.search.proofs.subset.beyond.Tie as tie
 
@@ -10,10 +10,10 @@ fits : (c : tie.Start) → c .args .s < 2 ^ 32
 fits c = c .fits .s .fits
 
 shl-result : tie.Need-shl-result
-shl-result c = lowest-lt 32 (c .args .s) (c .pre) (fits c) (fits c)
+shl-result c = omega (arith, lowest-is (c .args .s) (c .pre) (fits c), lowest-lt 32 (c .args .s) (c .pre) (fits c))
 
 sub-result : tie.Need-sub-result
-sub-result c = omega (arith, shl-one (c .args .s) (c .pre) (fits c), low-le 32 (c .args .s) (c .pre) (fits c))
+sub-result c = omega (arith, shl-one (c .args .s) (c .pre) (fits c), low-le (c .args .s) (c .args .s) (c .pre) (self-lt (c .args .s)))
 
 returns : tie.Need-returns
 returns c = omega (arith, shl-one (c .args .s) (c .pre) (fits c))
