@@ -5,10 +5,10 @@
  * what it was lent.
  *
  * Measures. A sink has whole x and y from -1,000,000 to 1,000,000, in grid
- * units. Its tilted coordinates are u = x + y and v = x - y. Places of tree
- * nodes are stored doubled: U = 2u, V = 2v. Lengths (wires, totals) count
- * HALF grid units. Plane position in quarters of a grid unit: U + V for x,
- * U - V for y.
+ * units; several sinks may share a place. Its tilted coordinates are
+ * u = x + y and v = x - y. Places of tree nodes are stored doubled: U = 2u,
+ * V = 2v. Lengths (wires, totals) count HALF grid units. Plane position in
+ * quarters of a grid unit: U + V for x, U - V for y.
  *
  * Nodes. Of n sinks, nodes 0 to n-1 are the sinks in input order and nodes n
  * to 2n-2 are the joins; the last node is the root (sink 0 where n = 1). A
@@ -28,8 +28,7 @@
  *   2  no sink                                           no place
  *   3  over 512 sinks (over 12 for the search)           no place
  *   4  a coordinate outside its range                    the lowest such sink
- *   5  two sinks on one place                            the lowest sink that
- *                                                        repeats an earlier one
+ *   5  withdrawn: no call says it
  *   6  the joining order is wrong                        wrong count: the smaller
  *                                                        of whole pairs given and
  *                                                        n-1; else the first bad
@@ -73,7 +72,7 @@ enum {
 /*
  * The box of all sinks: least and greatest u, least and greatest v. Its four
  * raw numbers go to `box`; read them with skeprafter_ends only.
- * Refusals: 1 to 5. Value: 0.
+ * Refusals: 1 to 4. Value: 0.
  */
 void skeprafter_box_of(const int32_t *x, size_t nx, const int32_t *y, size_t ny,
                        uint32_t box[4], uint64_t said[6]);
@@ -102,7 +101,7 @@ uint32_t skeprafter_diameter(const uint32_t box[4]);
 /*
  * Embeds a given joining order. Fills 2n-1 entries each of u and v (doubled
  * places) and of wires (the wire to the parent; the root's is 0).
- * Refusals: 1 to 7. Value: the total wire in half units.
+ * Refusals: 1 to 4, 6, 7. Value: the total wire in half units.
  */
 void skeprafter_embed(const int32_t *x, size_t nx, const int32_t *y, size_t ny,
                       const uint16_t *joins, size_t nj, int32_t *u, size_t nu,
@@ -113,7 +112,7 @@ void skeprafter_embed(const int32_t *x, size_t nx, const int32_t *y, size_t ny,
  * Joins by least diameter: again and again the two live nodes whose union has
  * the least diameter, then the lower first, then the lower second number.
  * Fills 2(n-1) entries of joins, lower number first in each pair.
- * Refusals: 1 to 5, 7. Value: 0.
+ * Refusals: 1 to 4, 7. Value: 0.
  */
 void skeprafter_join_nearest(const int32_t *x, size_t nx, const int32_t *y, size_t ny,
                              uint16_t *joins, size_t nj, uint64_t said[6]);
@@ -121,7 +120,7 @@ void skeprafter_join_nearest(const int32_t *x, size_t nx, const int32_t *y, size
 /*
  * Joins by least diameter and embeds the result. Fills 2(n-1) entries of
  * joins and 2n-1 each of u, v and wires.
- * Refusals: 1 to 5, 7. Value: the total wire in half units.
+ * Refusals: 1 to 4, 7. Value: the total wire in half units.
  */
 void skeprafter_embed_nearest(const int32_t *x, size_t nx, const int32_t *y, size_t ny,
                               uint16_t *joins, size_t nj, int32_t *u, size_t nu,
@@ -138,7 +137,7 @@ void skeprafter_embed_nearest(const int32_t *x, size_t nx, const int32_t *y, siz
  * its best, the one in progress its diameter plus the least sum examined so
  * far, one of two or more sinks without an examined split UINT32_MAX, and the
  * empty set and single sinks 0.
- * Refusals: 1 to 5 with 3 from 13 sinks on, 7. Value: the total wire in half
+ * Refusals: 1 to 4 with 3 from 13 sinks on, 7. Value: the total wire in half
  * units; steps: the smaller of budget and F(n); proven: 1 or 0.
  */
 void skeprafter_search(const int32_t *x, size_t nx, const int32_t *y, size_t ny,
@@ -150,14 +149,14 @@ void skeprafter_search(const int32_t *x, size_t nx, const int32_t *y, size_t ny,
 
 /*
  * Writes a sink file (tags 1, 2): 7 + 8n bytes of out.
- * Refusals: 1 to 5, 7. Value: the bytes written.
+ * Refusals: 1 to 4, 7. Value: the bytes written.
  */
 void skeprafter_write_sinks(const int32_t *x, size_t nx, const int32_t *y, size_t ny,
                             uint8_t *out, size_t no, uint64_t said[6]);
 
 /*
  * Writes a joined file (tags 1 to 3): 6 + 12n bytes of out.
- * Refusals: 1 to 7. Value: the bytes written.
+ * Refusals: 1 to 4, 6, 7. Value: the bytes written.
  */
 void skeprafter_write_joined(const int32_t *x, size_t nx, const int32_t *y, size_t ny,
                              const uint16_t *joins, size_t nj, uint8_t *out, size_t no,
@@ -166,7 +165,7 @@ void skeprafter_write_joined(const int32_t *x, size_t nx, const int32_t *y, size
 /*
  * Writes a tree file (tags 1 to 5): 36n bytes of out, at most 18,432. Places
  * and wires are worked out from sinks and joins.
- * Refusals: 1 to 7. Value: the bytes written.
+ * Refusals: 1 to 4, 6, 7. Value: the bytes written.
  */
 void skeprafter_write_tree(const int32_t *x, size_t nx, const int32_t *y, size_t ny,
                            const uint16_t *joins, size_t nj, uint8_t *out, size_t no,
@@ -174,14 +173,14 @@ void skeprafter_write_tree(const int32_t *x, size_t nx, const int32_t *y, size_t
 
 /*
  * Reads a sink file. Fills n entries each of x and y.
- * Refusals: 8, 2 to 5, 7. Value: the number of sinks.
+ * Refusals: 8, 2 to 4, 7. Value: the number of sinks.
  */
 void skeprafter_read_sinks(const uint8_t *file, size_t nf, int32_t *x, size_t nx,
                            int32_t *y, size_t ny, uint64_t said[6]);
 
 /*
  * Reads a joined file. Fills n entries each of x and y, 2(n-1) of joins.
- * Refusals: 8, 2 to 6, 7. Value: the number of sinks.
+ * Refusals: 8, 2 to 4, 6, 7. Value: the number of sinks.
  */
 void skeprafter_read_joined(const uint8_t *file, size_t nf, int32_t *x, size_t nx,
                             int32_t *y, size_t ny, uint16_t *joins, size_t nj,
@@ -190,7 +189,7 @@ void skeprafter_read_joined(const uint8_t *file, size_t nf, int32_t *x, size_t n
 /*
  * Reads a tree file and checks its places and wires against the embedding;
  * they are not handed out. Fills n entries each of x and y, 2(n-1) of joins.
- * Refusals: 8, 2 to 6, 9, 7. Value: the number of sinks.
+ * Refusals: 8, 2 to 4, 6, 9, 7. Value: the number of sinks.
  */
 void skeprafter_read_tree(const uint8_t *file, size_t nf, int32_t *x, size_t nx,
                           int32_t *y, size_t ny, uint16_t *joins, size_t nj,

@@ -2,10 +2,11 @@
 
 use crate::compare::options::number;
 use crate::embed::{self, Lent};
-use crate::files::{read_tree, write_tree, Kind};
+use crate::files::{read_tree, write_sinks, write_tree, Kind};
 use crate::generate::{good_joins, sinks, Random, SinkKind};
 use crate::least;
 use crate::proved;
+use crate::refusal::Refusal;
 use crate::search;
 use std::time::{Duration, Instant};
 
@@ -15,6 +16,8 @@ const INPUTS: usize = 7;
 /// Most runs of each side, and fewest where a run takes long.
 const MOST_RUNS: usize = 401;
 const FEWEST_RUNS: usize = 9;
+/// Calls in one timed run where a call is too short for the clock.
+const MANY: u32 = 100;
 /// Time after which no further run of a line is begun.
 const ENOUGH: Duration = Duration::from_secs(2);
 
@@ -37,23 +40,28 @@ pub fn run(seed: u64) {
     println!(
         "Measured: {build}, one process, {INPUTS} inputs a line, uniform random by seed {seed}; \
          both sides in turn on the same input, the one that begins changing from run to run; \
-         buffers not cleared between runs; ratio of the median times.\n"
+         buffers not cleared between runs; ratio of the median times. A run is one call, and \
+         {MANY} calls for the check of sinks; times are those of one call.\n"
     );
     println!("| call | n | runs | proved, µs | reference, µs | proved / reference |");
     println!("|---|---:|---:|---:|---:|---:|");
-    let rows: [(&str, usize, Side, Side); 9] = [
-        ("embed", 512, proved_embed, reference_embed),
-        ("join by least diameter", 64, proved_join, reference_join),
-        ("join by least diameter", 256, proved_join, reference_join),
-        ("join by least diameter", 512, proved_join, reference_join),
-        ("search", 8, proved_search, reference_search),
-        ("search", 10, proved_search, reference_search),
-        ("search", 12, proved_search, reference_search),
-        ("read a tree file", 512, proved_read, reference_read),
-        ("write a tree file", 512, proved_write, reference_write),
+    let join = "join by least diameter";
+    let check = "check of sinks";
+    let rows: [(&str, usize, u32, Side, Side); 11] = [
+        (check, 64, MANY, proved_check, reference_check),
+        (check, 512, MANY, proved_check, reference_check),
+        ("embed", 512, 1, proved_embed, reference_embed),
+        (join, 64, 1, proved_join, reference_join),
+        (join, 256, 1, proved_join, reference_join),
+        (join, 512, 1, proved_join, reference_join),
+        ("search", 8, 1, proved_search, reference_search),
+        ("search", 10, 1, proved_search, reference_search),
+        ("search", 12, 1, proved_search, reference_search),
+        ("read a tree file", 512, 1, proved_read, reference_read),
+        ("write a tree file", 512, 1, proved_write, reference_write),
     ];
-    for (name, n, proved, reference) in rows {
-        println!("{}", row(seed, name, n, proved, reference));
+    for (name, n, calls, proved, reference) in rows {
+        println!("{}", row(seed, name, n, calls, proved, reference));
     }
 }
 
@@ -116,8 +124,8 @@ impl Work {
     }
 }
 
-/// A line of the table.
-fn row(seed: u64, name: &str, n: usize, proved: Side, reference: Side) -> String {
+/// A line of the table, with so many calls in a timed run.
+fn row(seed: u64, name: &str, n: usize, calls: u32, proved: Side, reference: Side) -> String {
     let mut random = Random::new(seed);
     let inputs: Vec<Input> = (0..INPUTS).map(|_| Input::draw(&mut random, n)).collect();
     let (mut ours, mut theirs) = (Work::new(n), Work::new(n));
@@ -130,9 +138,10 @@ fn row(seed: u64, name: &str, n: usize, proved: Side, reference: Side) -> String
         }
         let input = &inputs[run % INPUTS];
         let proved_first = run % 2 == 0;
-        let early = proved_first.then(|| timed(proved, input, &mut theirs));
-        let (ours_said, ours_time) = timed(reference, input, &mut ours);
-        let (theirs_said, theirs_time) = early.unwrap_or_else(|| timed(proved, input, &mut theirs));
+        let mut ask_proved = || timed(proved, calls, input, &mut theirs);
+        let early = proved_first.then(&mut ask_proved);
+        let (ours_said, ours_time) = timed(reference, calls, input, &mut ours);
+        let (theirs_said, theirs_time) = early.unwrap_or_else(ask_proved);
         assert_eq!(ours_said, theirs_said, "{name} at {n}: unlike answers");
         assert!(ours == theirs, "{name} at {n}: unlike buffers");
         ours_times.push(ours_time);
@@ -141,19 +150,39 @@ fn row(seed: u64, name: &str, n: usize, proved: Side, reference: Side) -> String
     let runs = ours_times.len();
     let (ours, theirs) = (median(ours_times), median(theirs_times));
     let ratio = theirs / ours;
-    format!("| {name} | {n} | {runs} | {theirs:.1} | {ours:.1} | {ratio:.2} |")
+    format!("| {name} | {n} | {runs} | {theirs:.2} | {ours:.2} | {ratio:.2} |")
 }
 
-fn timed(side: Side, input: &Input, work: &mut Work) -> (u64, Duration) {
+/// What the last call says, and the time of one call. Kept a function of its
+/// own, so that the side is any side here and no call can be left out.
+#[inline(never)]
+fn timed(side: Side, calls: u32, input: &Input, work: &mut Work) -> (u64, Duration) {
+    let mut said = 0;
     let start = Instant::now();
-    let said = side(input, work);
-    (said, start.elapsed())
+    for _ in 0..calls {
+        said = side(input, work);
+    }
+    (said, start.elapsed() / calls)
 }
 
 /// The median in microseconds.
 fn median(mut times: Vec<Duration>) -> f64 {
     times.sort_unstable();
     times[times.len() / 2].as_secs_f64() * 1e6
+}
+
+/// A sink file for which there is no room is refused 7 as soon as its sinks
+/// have been checked; anything else would measure something else.
+fn proved_check(input: &Input, _work: &mut Work) -> u64 {
+    let refused = proved::write(Kind::Sinks, &input.x, &input.y, &[], &mut []);
+    assert_eq!(refused, Err((7, None)));
+    7
+}
+
+fn reference_check(input: &Input, _work: &mut Work) -> u64 {
+    let refused = write_sinks(&input.x, &input.y, &mut []);
+    assert_eq!(refused, Err(Refusal::ShortBuffer));
+    7
 }
 
 fn proved_embed(input: &Input, work: &mut Work) -> u64 {

@@ -8,33 +8,40 @@ use crate::plane::{self, MOST_SINKS};
 use crate::refusal::Refusal;
 
 /// Writes a sink file into the lent bytes and gives its length.
-/// Refusals 1 to 5, then 7.
+/// Refusals 1 to 4, then 7.
 pub fn write_sinks(x: &[i32], y: &[i32], out: &mut [u8]) -> Result<usize, Refusal> {
     plane::check_sinks(x, y, MOST_SINKS)?;
-    lend(&sink_bytes(x, y), out)
+    lend(Kind::Sinks, x.len(), out, || sink_bytes(x, y))
 }
 
 /// Writes a joined file into the lent bytes and gives its length.
-/// Refusals 1 to 7.
+/// Refusals 1 to 4, 6, then 7.
 pub fn write_joined(x: &[i32], y: &[i32], joins: &[u16], out: &mut [u8]) -> Result<usize, Refusal> {
     plane::check_sinks(x, y, MOST_SINKS)?;
     joins::check(x.len(), joins)?;
-    lend(&joined_bytes(x, y, joins), out)
+    lend(Kind::Joined, x.len(), out, || joined_bytes(x, y, joins))
 }
 
 /// Writes a tree file into the lent bytes and gives its length; places and
-/// wires are worked out here. Refusals 1 to 7.
+/// wires are worked out here. Refusals 1 to 4, 6, then 7.
 pub fn write_tree(x: &[i32], y: &[i32], joins: &[u16], out: &mut [u8]) -> Result<usize, Refusal> {
     plane::check_sinks(x, y, MOST_SINKS)?;
     joins::check(x.len(), joins)?;
-    lend(&tree_bytes(x, y, joins), out)
+    lend(Kind::Tree, x.len(), out, || tree_bytes(x, y, joins))
 }
 
-/// Copies a finished file to the front of the lent bytes.
-fn lend(file: &[u8], out: &mut [u8]) -> Result<usize, Refusal> {
-    let front = out.get_mut(..file.len()).ok_or(Refusal::ShortBuffer)?;
-    front.copy_from_slice(file);
-    Ok(file.len())
+/// Makes the file of `n` sinks and copies it to the front of the lent bytes;
+/// where it does not fit, it is not made at all.
+fn lend(
+    kind: Kind,
+    n: usize,
+    out: &mut [u8],
+    make: impl FnOnce() -> Vec<u8>,
+) -> Result<usize, Refusal> {
+    let length = kind.file_length(n);
+    let front = out.get_mut(..length).ok_or(Refusal::ShortBuffer)?;
+    front.copy_from_slice(&make());
+    Ok(length)
 }
 
 fn sink_bytes(x: &[i32], y: &[i32]) -> Vec<u8> {
@@ -73,13 +80,13 @@ fn place_bytes(places: impl Iterator<Item = (i32, i32)>) -> Vec<u8> {
 }
 
 /// Reads a sink file, fills x and y from the front and gives the number of
-/// sinks. Refusals 8, 2 to 5, then 7.
+/// sinks. Refusals 8, 2 to 4, then 7.
 pub fn read_sinks(file: &[u8], x: &mut [i32], y: &mut [i32]) -> Result<usize, Refusal> {
     contents(Kind::Sinks, file)?.hand_out(x, y, &mut [])
 }
 
 /// Reads a joined file, fills x, y and the joins from the front and gives
-/// the number of sinks. Refusals 8, 2 to 6, then 7.
+/// the number of sinks. Refusals 8, 2 to 4, 6, then 7.
 pub fn read_joined(
     file: &[u8],
     x: &mut [i32],
@@ -90,7 +97,7 @@ pub fn read_joined(
 }
 
 /// Reads a tree file as a joined file is read; its places and wires are
-/// checked, not handed out. Refusals 8, 2 to 6, 9, then 7.
+/// checked, not handed out. Refusals 8, 2 to 4, 6, 9, then 7.
 pub fn read_tree(
     file: &[u8],
     x: &mut [i32],

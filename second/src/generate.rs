@@ -56,28 +56,36 @@ pub enum SinkKind {
     Collinear,
     /// At least one coordinate at ±1,000,000, corners often.
     Extreme,
-    /// With pins on one place, so that refusal 5 occurs (from 2 sinks on).
+    /// All on one place.
+    OnePlace,
+    /// On up to four places.
+    FewPlaces,
+    /// In a small square, some later pins on the places of earlier ones.
     Coinciding,
+    /// On three columns and three rows: places repeat and diameters tie.
+    Coarse,
     /// With at least one coordinate outside, so that refusal 4 occurs.
     OutOfRange,
 }
 
 impl SinkKind {
-    /// The kinds that are accepted: distinct places within the range.
-    pub const GOOD: [SinkKind; 4] = [
+    /// The kinds that are accepted, first those of distinct places.
+    pub const GOOD: [SinkKind; 8] = [
         SinkKind::Uniform,
         SinkKind::Clustered,
         SinkKind::Collinear,
         SinkKind::Extreme,
-    ];
-    /// All kinds.
-    pub const ALL: [SinkKind; 6] = [
-        SinkKind::Uniform,
-        SinkKind::Clustered,
-        SinkKind::Collinear,
-        SinkKind::Extreme,
+        SinkKind::OnePlace,
+        SinkKind::FewPlaces,
         SinkKind::Coinciding,
-        SinkKind::OutOfRange,
+        SinkKind::Coarse,
+    ];
+    /// The kinds that are accepted and have several pins on a place.
+    pub const SHARING: [SinkKind; 4] = [
+        SinkKind::OnePlace,
+        SinkKind::FewPlaces,
+        SinkKind::Coinciding,
+        SinkKind::Coarse,
     ];
 }
 
@@ -88,7 +96,17 @@ pub fn sinks(random: &mut Random, kind: SinkKind, n: usize) -> (Vec<i32>, Vec<i3
         SinkKind::Clustered => clustered(random, n),
         SinkKind::Collinear => collinear(random, n),
         SinkKind::Extreme => distinct(random, n, extreme_sink),
-        SinkKind::Coinciding => coinciding(random, n),
+        SinkKind::OnePlace => on_places(random, n, 1),
+        SinkKind::FewPlaces => {
+            let places = 2 + random.below(3);
+            on_places(random, n, places)
+        }
+        SinkKind::Coinciding => {
+            let mut lists = clustered(random, n);
+            put_together(random, &mut lists);
+            lists
+        }
+        SinkKind::Coarse => coarse(random, n),
         SinkKind::OutOfRange => out_of_range(random, n),
     }
 }
@@ -154,17 +172,43 @@ fn collinear(random: &mut Random, n: usize) -> (Vec<i32>, Vec<i32>) {
     })
 }
 
-fn coinciding(random: &mut Random, n: usize) -> (Vec<i32>, Vec<i32>) {
-    let (mut x, mut y) = clustered(random, n);
+/// Pins on so many places at most, each on any of them.
+fn on_places(random: &mut Random, n: usize, places: usize) -> (Vec<i32>, Vec<i32>) {
+    let (x, y) = distinct(random, places, shared_place);
+    let picks = (0..n).map(|_| random.below(places));
+    picks.map(|place| (x[place], y[place])).unzip()
+}
+
+/// A place for several pins: anywhere, at the edge of the range, or in the
+/// middle of it, where unlike places lie close together.
+fn shared_place(random: &mut Random) -> (i32, i32) {
+    match random.below(3) {
+        0 => uniform_sink(random),
+        1 => extreme_sink(random),
+        _ => (random.between(-2, 2), random.between(-2, 2)),
+    }
+}
+
+/// Puts some later pins, few or many, on the places of earlier ones.
+pub fn put_together(random: &mut Random, (x, y): &mut (Vec<i32>, Vec<i32>)) {
+    let n = x.len();
     if n >= 2 {
-        for _ in 0..1 + random.below(3) {
+        for _ in 0..1 + random.below(n) {
             let later = 1 + random.below(n - 1);
             let earlier = random.below(later);
             x[later] = x[earlier];
             y[later] = y[earlier];
         }
     }
-    (x, y)
+}
+
+/// The nine places lie close together anywhere, or reach the four corners.
+fn coarse(random: &mut Random, n: usize) -> (Vec<i32>, Vec<i32>) {
+    let step = random.pick(&[1, 2, REACH]);
+    let reach = REACH - step;
+    let (x, y) = (random.between(-reach, reach), random.between(-reach, reach));
+    let mut line = |middle: i32| middle + step * random.between(-1, 1);
+    (0..n).map(|_| (line(x), line(y))).unzip()
 }
 
 fn out_of_range(random: &mut Random, n: usize) -> (Vec<i32>, Vec<i32>) {
@@ -351,16 +395,33 @@ mod tests {
     fn sinks_are_accepted_or_refused_as_their_kind_says() {
         let mut random = Random::new(71);
         for n in (2..40).chain([512]) {
-            for kind in SinkKind::ALL {
+            for kind in SinkKind::GOOD {
                 let (x, y) = sinks(&mut random, kind, n);
-                let number = check_sinks(&x, &y, MOST_SINKS).map_err(|r| r.number());
-                let expected = match kind {
-                    SinkKind::Coinciding => Err(5),
-                    SinkKind::OutOfRange => Err(4),
-                    _ => Ok(()),
-                };
-                assert_eq!(number, expected, "{kind:?} {n}");
+                assert_eq!(check_sinks(&x, &y, MOST_SINKS), Ok(()), "{kind:?} {n}");
                 assert_eq!(x.len(), n);
+            }
+            let (x, y) = sinks(&mut random, SinkKind::OutOfRange, n);
+            let refusal = check_sinks(&x, &y, MOST_SINKS).unwrap_err();
+            assert_eq!(refusal.number(), 4);
+        }
+    }
+
+    #[test]
+    fn places_are_shared_as_the_kind_says() {
+        let mut random = Random::new(74);
+        for n in 10..60 {
+            for kind in SinkKind::GOOD {
+                let (x, y) = sinks(&mut random, kind, n);
+                let places = x.iter().zip(&y).collect::<HashSet<_>>().len();
+                let expected = match kind {
+                    SinkKind::OnePlace => 1..=1,
+                    SinkKind::FewPlaces => 1..=4,
+                    SinkKind::Coinciding => 1..=n - 1,
+                    SinkKind::Coarse => 1..=9,
+                    _ => n..=n,
+                };
+                assert!(expected.contains(&places), "{kind:?} {n}: {places}");
+                assert_eq!(SinkKind::SHARING.contains(&kind), places < n);
             }
         }
     }

@@ -5,7 +5,7 @@ use crate::plane::{self, TiltedBox};
 use crate::refusal::Refusal;
 
 /// Writes the pairs of the joining by least diameter into the lent list and
-/// gives their number, n-1. Refusals 1 to 5, then 7.
+/// gives their number, n-1. Refusals 1 to 4, then 7.
 pub fn join_least(x: &[i32], y: &[i32], pairs: &mut [u16]) -> Result<usize, Refusal> {
     check(x, y, pairs)?;
     let joins = least_joins(x, y);
@@ -14,7 +14,7 @@ pub fn join_least(x: &[i32], y: &[i32], pairs: &mut [u16]) -> Result<usize, Refu
 }
 
 /// Joins by least diameter and embeds the result; gives the total in half
-/// units. Refusals 1 to 5, then 7 for any of the buffers.
+/// units. Refusals 1 to 4, then 7 for any of the buffers.
 pub fn build_least(
     x: &[i32],
     y: &[i32],
@@ -155,8 +155,26 @@ mod tests {
                 assert_eq!(least_joins(&x, &y), naive_joins(&x, &y));
             }
         }
-        let (x, y) = sinks(&mut random, SinkKind::Clustered, 150);
-        assert_eq!(least_joins(&x, &y), naive_joins(&x, &y));
+        for kind in [SinkKind::Clustered, SinkKind::FewPlaces, SinkKind::Coarse] {
+            let (x, y) = sinks(&mut random, kind, 150);
+            assert_eq!(least_joins(&x, &y), naive_joins(&x, &y));
+        }
+    }
+
+    #[test]
+    fn pins_on_one_place_are_joined_by_number_alone() {
+        assert_eq!(least_joins(&[8, 8], &[3, 3]), [0, 1]);
+        // 0 and 1 make 5, 2 and 3 make 6, 4 and 5 make 7.
+        assert_eq!(least_joins(&[8; 5], &[3; 5]), [0, 1, 2, 3, 4, 5, 6, 7]);
+    }
+
+    #[test]
+    fn pins_on_one_place_are_joined_before_any_others() {
+        let (x, y) = ([0, 10, 0, 10], [0; 4]);
+        assert_eq!(least_joins(&x, &y), [0, 2, 1, 3, 4, 5]);
+        // The nearest other place comes after every pin of the same one.
+        let (x, y) = ([0, 1, 1, 0, 1], [0; 5]);
+        assert_eq!(least_joins(&x, &y), [0, 3, 1, 2, 4, 6, 5, 7]);
     }
 
     #[test]
@@ -179,7 +197,7 @@ mod tests {
         assert_eq!(short, [99; 5]);
         assert_eq!(
             join_least(&[0, 0], &[0, 0], &mut []),
-            Err(Refusal::SamePlace(1))
+            Err(Refusal::ShortBuffer)
         );
         assert_eq!(join_least(&[5], &[5], &mut []), Ok(0));
     }

@@ -31,7 +31,8 @@ fn in_range(x: i32, y: i32) -> bool {
     (-REACH..=REACH).contains(&x) && (-REACH..=REACH).contains(&y)
 }
 
-/// Refusals 1 to 5 in order, with at most `limit` sinks.
+/// Refusals 1 to 4 in order, with at most `limit` sinks. Equal places are
+/// as good as any: a sink is a pin, and a place may hold several.
 pub fn check_sinks(x: &[i32], y: &[i32], limit: usize) -> Result<(), Refusal> {
     if x.len() != y.len() {
         return Err(Refusal::ListsDiffer);
@@ -42,12 +43,8 @@ pub fn check_sinks(x: &[i32], y: &[i32], limit: usize) -> Result<(), Refusal> {
     if x.len() > limit {
         return Err(Refusal::TooManySinks);
     }
-    if let Some(sink) = (0..x.len()).find(|&i| !in_range(x[i], y[i])) {
-        return Err(Refusal::OutOfRange(sink));
-    }
-    let repeats = |i: usize| (0..i).any(|j| x[j] == x[i] && y[j] == y[i]);
-    match (0..x.len()).find(|&i| repeats(i)) {
-        Some(sink) => Err(Refusal::SamePlace(sink)),
+    match (0..x.len()).find(|&i| !in_range(x[i], y[i])) {
+        Some(sink) => Err(Refusal::OutOfRange(sink)),
         None => Ok(()),
     }
 }
@@ -114,7 +111,7 @@ pub(crate) fn sink_boxes(x: &[i32], y: &[i32]) -> Vec<TiltedBox> {
         .collect()
 }
 
-/// The box of all sinks, with refusals 1 to 5 as building has them.
+/// The box of all sinks, with refusals 1 to 4 as building has them.
 pub fn box_of_sinks(x: &[i32], y: &[i32]) -> Result<TiltedBox, Refusal> {
     check_sinks(x, y, MOST_SINKS)?;
     let boxes = sink_boxes(x, y);
@@ -138,7 +135,7 @@ mod tests {
     }
 
     #[test]
-    fn refusals_one_to_five_come_in_order() {
+    fn refusals_one_to_four_come_in_order() {
         assert_eq!(refusal(&[], &[1]), Refusal::ListsDiffer);
         assert_eq!(refusal(&[2_000_000], &[]), Refusal::ListsDiffer);
         assert_eq!(refusal(&[], &[]), Refusal::NoSink);
@@ -146,7 +143,19 @@ mod tests {
         assert_eq!(refusal(&many, &many), Refusal::TooManySinks);
         assert_eq!(refusal(&[0, 0, 0], &[0, 0, 1_000_001]).place(), Some(2));
         assert_eq!(refusal(&[i32::MIN, 0], &[0, 0]), Refusal::OutOfRange(0));
-        assert_eq!(refusal(&[5, 0, 0, 5], &[1, 0, 0, 1]), Refusal::SamePlace(2));
+        let pair = [2_000_000, 2_000_000];
+        assert_eq!(refusal(&pair, &pair), Refusal::OutOfRange(0));
+    }
+
+    #[test]
+    fn a_place_may_hold_several_pins() {
+        let (x, y) = ([5, 0, 0, 5], [1, 0, 0, 1]);
+        assert_eq!(check_sinks(&x, &y, MOST_SEARCHED), Ok(()));
+        assert_eq!(diameter_of_sinks(&x, &y), Ok(6));
+        assert_eq!(diameter_of_sinks(&x[1..3], &y[1..3]), Ok(0));
+        let most = vec![-REACH; 513];
+        assert_eq!(diameter_of_sinks(&most[..512], &most[..512]), Ok(0));
+        assert_eq!(refusal(&most, &most), Refusal::TooManySinks);
     }
 
     #[test]
@@ -162,8 +171,8 @@ mod tests {
     #[test]
     fn diameter_is_the_greatest_manhattan_distance() {
         let mut random = Random::new(11);
-        for n in 1..40 {
-            let (x, y) = sinks(&mut random, SinkKind::Uniform, n);
+        for (n, kind) in (1..80).zip(SinkKind::GOOD.into_iter().cycle()) {
+            let (x, y) = sinks(&mut random, kind, n);
             let mut greatest = 0;
             for i in 0..n {
                 for j in 0..n {

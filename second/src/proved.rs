@@ -166,6 +166,9 @@ pub type Answer = Result<Said, Refused>;
 /// not of the form; the place is then the lowest of the six that breaks it.
 pub const MALFORMED: u64 = u64::MAX;
 
+/// The refusal that was withdrawn; a call that says it breaks the form.
+const WITHDRAWN: u64 = 5;
+
 /// The raw numbers of a held box, which only the library can read.
 pub type RawBox = [u32; 4];
 
@@ -181,6 +184,9 @@ fn heard(said: [u64; 6]) -> Answer {
         (_, 0) => [9, 0, 0, 0, 0, 0],
         (_, _) => [9, 1, ANY, 0, 0, 0],
     };
+    if number == WITHDRAWN {
+        return Err((MALFORMED, Some(0)));
+    }
     if let Some(at) = (0..6).find(|&at| said[at] > greatest[at]) {
         return Err((MALFORMED, Some(at as u64)));
     }
@@ -409,5 +415,14 @@ mod tests {
         assert_eq!(at([7, 0, 0, 1, 1, 1]), 3);
         assert_eq!(at([7, 0, 0, 0, 1, 1]), 4);
         assert_eq!(at([0, 0, 0, 5, 5, 2]), 5);
+    }
+
+    #[test]
+    fn the_withdrawn_number_is_not_of_the_form() {
+        let malformed = Err((MALFORMED, Some(0)));
+        assert_eq!(heard([5, 1, 2, 0, 0, 0]), malformed);
+        assert_eq!(heard([5, 0, 0, 0, 0, 0]), malformed);
+        assert_eq!(heard([4, 1, 5, 0, 0, 0]), Err((4, Some(5))));
+        assert_eq!(heard([6, 1, 5, 0, 0, 0]), Err((6, Some(5))));
     }
 }

@@ -1,4 +1,7 @@
-//! The nine refusals, each with its number and its place.
+//! The refusals, each with its number and its place.
+//!
+//! The numbers are 1 to 4 and 6 to 9. Number 5 is withdrawn, since a place
+//! may hold several pins; no other refusal takes it.
 
 use std::fmt;
 
@@ -14,8 +17,6 @@ pub enum Refusal {
     TooManySinks,
     /// 4: the lowest sink with a coordinate outside its range.
     OutOfRange(usize),
-    /// 5: the lowest sink that repeats an earlier one.
-    SamePlace(usize),
     /// 6: the first bad pair, or the smaller of given and wanted pairs.
     WrongJoins(usize),
     /// 7: a lent buffer is too short.
@@ -28,14 +29,13 @@ pub enum Refusal {
 }
 
 impl Refusal {
-    /// The refusal's number, 1 to 9.
+    /// The refusal's number, never 5.
     pub fn number(self) -> u8 {
         match self {
             Refusal::ListsDiffer => 1,
             Refusal::NoSink => 2,
             Refusal::TooManySinks => 3,
             Refusal::OutOfRange(_) => 4,
-            Refusal::SamePlace(_) => 5,
             Refusal::WrongJoins(_) => 6,
             Refusal::ShortBuffer => 7,
             Refusal::NotOfTheForm(_) => 8,
@@ -51,7 +51,6 @@ impl Refusal {
             | Refusal::TooManySinks
             | Refusal::ShortBuffer => None,
             Refusal::OutOfRange(place)
-            | Refusal::SamePlace(place)
             | Refusal::WrongJoins(place)
             | Refusal::NotOfTheForm(place) => Some(place),
             Refusal::NotTheEmbedding(place) => place,
@@ -79,5 +78,20 @@ mod tests {
         assert_eq!(Refusal::NoSink.to_string(), "refused 2");
         assert_eq!(Refusal::NotTheEmbedding(None).to_string(), "refused 9");
         assert_eq!(Refusal::NotTheEmbedding(Some(0)).to_string(), "refused 9 0");
+    }
+
+    #[test]
+    fn the_numbers_are_one_to_nine_without_five() {
+        let one_of_each = [
+            Refusal::ListsDiffer,
+            Refusal::NoSink,
+            Refusal::TooManySinks,
+            Refusal::OutOfRange(5),
+            Refusal::WrongJoins(5),
+            Refusal::ShortBuffer,
+            Refusal::NotOfTheForm(5),
+            Refusal::NotTheEmbedding(Some(5)),
+        ];
+        assert_eq!(one_of_each.map(Refusal::number), [1, 2, 3, 4, 6, 7, 8, 9]);
     }
 }

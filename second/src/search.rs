@@ -29,7 +29,7 @@ pub fn full_steps(n: usize) -> u64 {
     (3u64.pow(n) + 1) / 2 - 2u64.pow(n)
 }
 
-/// The square of distances between sinks, with refusals 1 to 5 at 12 sinks.
+/// The square of distances between sinks, with refusals 1 to 4 at 12 sinks.
 pub fn distance_square(x: &[i32], y: &[i32]) -> Result<Square, Refusal> {
     plane::check_sinks(x, y, MOST_SEARCHED)?;
     Ok(square(x, y))
@@ -47,7 +47,7 @@ fn square(x: &[i32], y: &[i32]) -> Square {
 
 /// Searches with the budget, leaves the work table as the examined splits
 /// make it, and fills in the tree: the least one where the budget reaches
-/// F(n), else the one of joining by least diameter. Refusals 1 to 5 with at
+/// F(n), else the one of joining by least diameter. Refusals 1 to 4 with at
 /// most 12 sinks, then 7.
 pub fn search(
     x: &[i32],
@@ -199,6 +199,7 @@ mod tests {
         expected[0][1] = 5;
         expected[1][0] = 5;
         assert_eq!(square, expected);
+        assert_eq!(distance_square(&[8; 12], &[3; 12]), Ok([[0; 12]; 12]));
         let many: Vec<i32> = (0..13).collect();
         assert_eq!(distance_square(&many, &many), Err(Refusal::TooManySinks));
     }
@@ -206,14 +207,16 @@ mod tests {
     #[test]
     fn subset_diameters_are_those_of_the_boxes() {
         let mut random = Random::new(61);
-        let (x, y) = sinks(&mut random, SinkKind::Uniform, 7);
-        let diameters = subset_diameters(&square(&x, &y), 7);
-        for (subset, &d) in diameters.iter().enumerate().skip(1) {
-            let of = |list: &[i32]| -> Vec<i32> {
-                let inside = (0..7).filter(|i| subset >> i & 1 == 1);
-                inside.map(|i| list[i]).collect()
-            };
-            assert_eq!(diameter_of_sinks(&of(&x), &of(&y)), Ok(d));
+        for kind in SinkKind::GOOD {
+            let (x, y) = sinks(&mut random, kind, 7);
+            let diameters = subset_diameters(&square(&x, &y), 7);
+            for (subset, &d) in diameters.iter().enumerate().skip(1) {
+                let of = |list: &[i32]| -> Vec<i32> {
+                    let inside = (0..7).filter(|i| subset >> i & 1 == 1);
+                    inside.map(|i| list[i]).collect()
+                };
+                assert_eq!(diameter_of_sinks(&of(&x), &of(&y)), Ok(d));
+            }
         }
     }
 }

@@ -34,6 +34,17 @@ fn text_to_file_to_tree_lines() {
 }
 
 #[test]
+fn two_pins_on_one_place_go_all_the_way() {
+    let file = run(&["encode", "sinks"], b"0 0\n0 0\n");
+    assert!(file.status.success());
+    let lines = run(&["tree"], &file.stdout);
+    let text = b"sinks 2 wire 0 proven\n(0 1)\n0 0 0 0 2\n1 0 0 0 2\n2 0 0 0 -\n";
+    assert_eq!(lines.stdout, text);
+    let back = run(&["decode", "sinks"], &file.stdout);
+    assert_eq!(back.stdout, b"0 0\n0 0\n");
+}
+
+#[test]
 fn joined_and_tree_files_come_back_as_text() {
     let text = b"0 0\n2 0\n10 0\n\n0 1\n3 2\n";
     for kind in ["joined", "tree"] {
@@ -52,9 +63,9 @@ fn troubles_go_to_standard_error() {
     assert_eq!(malformed.status.code(), Some(1));
     assert!(malformed.stdout.is_empty());
     assert!(message(&malformed).starts_with("line 2: "));
-    let refused = run(&["encode", "sinks"], b"0 0\n0 0\n");
+    let refused = run(&["encode", "sinks"], b"0 0\n0 1000001\n");
     assert_eq!(refused.status.code(), Some(1));
-    assert_eq!(message(&refused), "refused 5 1\n");
+    assert_eq!(message(&refused), "refused 4 1\n");
 }
 
 #[test]

@@ -82,6 +82,42 @@ fn small_trees_follow_the_sentences() {
 }
 
 #[test]
+fn small_trees_with_shared_places_follow_the_sentences() {
+    let mut random = Random::new(302);
+    for round in 0..300 {
+        let n = 2 + round % 7;
+        let most = random.pick(&[0, 1, 2]);
+        let mut list = || -> Vec<i32> { (0..n).map(|_| random.between(0, most)).collect() };
+        let (x, y) = (list(), list());
+        check(&x, &y, &good_joins(&mut random, n));
+    }
+}
+
+#[test]
+fn pins_on_one_place_need_no_wire_between_them() {
+    let two = treed(&[3, 3], &[-5, -5], &[0, 1]).unwrap();
+    assert_eq!((two.u, two.v), (vec![-4; 3], vec![16; 3]));
+    assert_eq!((two.wires, two.total), (vec![0; 3], 0));
+    let (x, y) = ([0, 10, 0, 10], [0; 4]);
+    let four = treed(&x, &y, &[0, 2, 1, 3, 4, 5]).unwrap();
+    assert_eq!(four.u, [0, 20, 0, 20, 0, 20, 10]);
+    assert_eq!(four.v, [0, 20, 0, 20, 0, 20, 10]);
+    assert_eq!(four.wires, [0, 0, 0, 0, 10, 10, 0]);
+    assert_eq!(four.total, 20);
+}
+
+#[test]
+fn a_pin_joined_late_has_a_wire_of_its_own() {
+    // Pins 0 and 2 share a place, but 0 is joined to the far pin 1 first:
+    // the root stands on that join, 10 half units from the place of both.
+    let answer = treed(&[0, 10, 0], &[0; 3], &[0, 1, 3, 2]).unwrap();
+    assert_eq!(answer.u, [0, 20, 0, 10, 10]);
+    assert_eq!(answer.v, [0, 20, 0, 10, 10]);
+    assert_eq!(answer.wires, [10, 10, 10, 0, 0]);
+    assert_eq!(answer.total, 30);
+}
+
+#[test]
 fn the_root_takes_the_least_u_then_the_least_v() {
     let level = treed(&[0, 3], &[0, 2], &[0, 1]).unwrap();
     assert_eq!((level.u[2], level.v[2]), (5, -3));

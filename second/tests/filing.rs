@@ -71,19 +71,34 @@ fn form(offset: usize) -> Refusal {
 fn files_of_all_kinds_come_back() {
     let mut random = Random::new(201);
     for n in (1..30).chain([511, 512]) {
-        let (x, y) = sinks(&mut random, SinkKind::GOOD[n % 4], n);
-        let joins = good_joins(&mut random, n);
-        for kind in Kind::ALL {
-            let file = written(kind, &x, &y, &joins).unwrap();
-            let read = read_into(kind, &file, [n + 2, n + 1, 2 * n]);
-            assert_eq!(read.answer, Ok(n));
-            assert_eq!((&read.x[..n], &read.y[..n]), (&x[..], &y[..]));
-            assert_eq!((read.x[n..].len(), read.y[n]), (2, 7));
-            let names = if kind == Kind::Sinks { 0 } else { 2 * n - 2 };
-            assert_eq!(read.joins[..names], joins[..names]);
-            assert!(read.joins[names..].iter().all(|&e| e == 7));
+        for spread in SinkKind::GOOD {
+            let (x, y) = sinks(&mut random, spread, n);
+            let joins = good_joins(&mut random, n);
+            check_round_trips(&x, &y, &joins);
         }
     }
+}
+
+/// Writes files of all kinds and reads them into buffers with room to spare.
+fn check_round_trips(x: &[i32], y: &[i32], joins: &[u16]) {
+    let n = x.len();
+    for kind in Kind::ALL {
+        let file = written(kind, x, y, joins).unwrap();
+        let read = read_into(kind, &file, [n + 2, n + 1, 2 * n]);
+        assert_eq!(read.answer, Ok(n));
+        assert_eq!((&read.x[..n], &read.y[..n]), (x, y));
+        assert_eq!((read.x[n..].len(), read.y[n]), (2, 7));
+        let names = if kind == Kind::Sinks { 0 } else { 2 * n - 2 };
+        assert_eq!(read.joins[..names], joins[..names]);
+        assert!(read.joins[names..].iter().all(|&e| e == 7));
+    }
+}
+
+#[test]
+fn files_of_pins_on_shared_places_come_back() {
+    check_round_trips(&[3, 3], &[-5, -5], &[0, 1]);
+    check_round_trips(&[0, 10, 0, 10], &[0; 4], &[0, 2, 1, 3, 4, 5]);
+    check_round_trips(&[0, 10, 0, 10], &[0; 4], &[1, 0, 3, 2, 5, 4]);
 }
 
 #[test]
@@ -101,6 +116,22 @@ fn a_short_tree_file_byte_for_byte() {
     expected.extend([0, 0, 0, 4, 0, 0, 0, 4, 5, 0, 12]);
     expected.extend([0, 0, 0, 4, 0, 0, 0, 4, 0, 0, 0, 0]);
     assert_eq!(file, expected);
+}
+
+#[test]
+fn a_tree_file_of_two_pins_on_one_place_byte_for_byte() {
+    let file = written(Kind::Tree, &[1, 1], &[0, 0], &[0, 1]).unwrap();
+    let mut expected = vec![1, 0, 1, 1, 2, 0, 16];
+    expected.extend([0, 0, 0, 1, 0, 0, 0, 0].repeat(2));
+    expected.extend([3, 0, 4, 0, 0, 0, 1, 4, 0, 24]);
+    expected.extend([0, 0, 0, 2, 0, 0, 0, 2].repeat(3));
+    expected.extend([5, 0, 12]);
+    expected.extend([0; 12]);
+    assert_eq!(file, expected);
+    // A wire where none is needed is not what embedding gives.
+    *expected.last_mut().unwrap() = 1;
+    let root = Refusal::NotTheEmbedding(Some(2));
+    assert_eq!(refusal(Kind::Tree, &expected), root);
 }
 
 /// Offsets of the tags of a tree file of `n` sinks, then its length.
@@ -205,7 +236,8 @@ fn sinks_are_checked_after_the_form() {
     assert_eq!(refused(&[]), Refusal::NoSink);
     assert_eq!(refused(&[(0, 0); 513]), Refusal::TooManySinks);
     assert_eq!(refused(&[(0, 0), (0, -1_000_001)]), Refusal::OutOfRange(1));
-    assert_eq!(refused(&[(0, 0), (1, 0), (1, 0)]), Refusal::SamePlace(2));
+    let twice_each = [(0, 0), (0, 0), (0, 1_000_001), (0, 1_000_001)];
+    assert_eq!(refused(&twice_each), Refusal::OutOfRange(2));
     let mut bad = fields(&[(1, &[1]), (2, &sink_value(&[(0, 2_000_000)]))]);
     bad.push(0);
     assert_eq!(refusal(Kind::Sinks, &bad), form(15));
@@ -345,10 +377,62 @@ fn the_program_prints_refusals() {
     assert_eq!(tree_lines(&[0; 32_769]), "refused input\n");
     let many = fields(&[(1, &[1]), (2, &[0; 8 * 513])]);
     assert_eq!(tree_lines(&many), "refused 3\n");
-    let twice = fields(&[(1, &[1]), (2, &[0; 16])]);
-    assert_eq!(tree_lines(&twice), "refused 5 1\n");
     let far = fields(&[(1, &[1]), (2, &[64; 8])]);
     assert_eq!(tree_lines(&far), "refused 4 0\n");
+}
+
+/// The program's text for these sinks.
+fn lines_of(x: &[i32], y: &[i32]) -> String {
+    tree_lines(&written(Kind::Sinks, x, y, &[]).unwrap())
+}
+
+#[test]
+fn the_program_prints_pins_on_shared_places() {
+    let two = "sinks 2 wire 0 proven
+(0 1)
+0 -4 16 0 2
+1 -4 16 0 2
+2 -4 16 0 -
+";
+    assert_eq!(lines_of(&[3, 3], &[-5, -5]), two);
+    let three = "sinks 3 wire 4 proven
+((0 2) 1)
+0 0 0 0 3
+1 4 0 2 4
+2 0 0 0 3
+3 0 0 2 4
+4 2 -2 0 -
+";
+    assert_eq!(lines_of(&[0, 1, 0], &[0, 1, 0]), three);
+    let four = "sinks 4 wire 20 proven
+((0 2) (1 3))
+0 0 0 0 4
+1 20 20 0 5
+2 0 0 0 4
+3 20 20 0 5
+4 0 0 10 6
+5 20 20 10 6
+6 10 10 0 -
+";
+    assert_eq!(lines_of(&[0, 10, 0, 10], &[0; 4]), four);
+}
+
+#[test]
+fn the_program_prints_many_pins_on_one_place() {
+    // The search keeps the first split, which parts off the lowest pin.
+    let twelve = lines_of(&[1; 12], &[0; 12]);
+    let start = "sinks 12 wire 0 proven
+(0 (1 (2 (3 (4 (5 (6 (7 (8 (9 (10 11)))))))))))
+0 2 2 0 22
+";
+    assert!(twelve.starts_with(start));
+    // Joining by least diameter takes the two lowest live nodes in turn.
+    let thirteen = lines_of(&[1; 13], &[0; 13]);
+    let start = "sinks 13 wire 0 greedy
+(((10 11) (12 (0 1))) (((2 3) (4 5)) ((6 7) (8 9))))
+0 2 2 0 13
+";
+    assert!(thirteen.starts_with(start));
 }
 
 #[test]

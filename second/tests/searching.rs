@@ -99,7 +99,7 @@ fn the_table_at_every_budget_up_to_four_sinks() {
     let mut random = Random::new(101);
     for n in 1..=4 {
         assert_eq!(all_steps(n).len() as u64, full_steps(n));
-        for kind in SinkKind::GOOD.into_iter().cycle().take(8) {
+        for kind in [SinkKind::GOOD, SinkKind::GOOD].concat() {
             let (x, y) = sinks(&mut random, kind, n);
             for budget in (0..=full_steps(n) + 2).chain([u64::MAX - 1, u64::MAX]) {
                 check_at((&x, &y), budget);
@@ -111,11 +111,11 @@ fn the_table_at_every_budget_up_to_four_sinks() {
 #[test]
 fn the_table_at_some_budgets_of_five_and_six_sinks() {
     let mut random = Random::new(102);
-    for round in 0..12 {
-        let n = 5 + round % 2;
-        let kind = random.pick(&SinkKind::GOOD);
-        let (x, y) = sinks(&mut random, kind, n);
-        check_at((&x, &y), budget(&mut random, n));
+    for n in [5, 6] {
+        for kind in SinkKind::GOOD {
+            let (x, y) = sinks(&mut random, kind, n);
+            check_at((&x, &y), budget(&mut random, n));
+        }
     }
 }
 
@@ -136,13 +136,14 @@ fn slow_joins(sinks: Sinks, subset: u32, joins: &mut Vec<u16>) -> u16 {
 #[test]
 fn proven_trees_are_the_first_least_splits() {
     let mut random = Random::new(103);
-    for round in 0..32 {
-        let kind = SinkKind::GOOD[round % 4];
-        let (x, y) = sinks(&mut random, kind, 1 + round % 5);
-        let answer = searched(&x, &y, u64::MAX).unwrap();
-        let mut joins = Vec::new();
-        slow_joins((&x, &y), (1 << x.len()) - 1, &mut joins);
-        assert_eq!(answer.pairs, joins);
+    for n in 1..=5 {
+        for kind in SinkKind::GOOD {
+            let (x, y) = sinks(&mut random, kind, n);
+            let answer = searched(&x, &y, u64::MAX).unwrap();
+            let mut joins = Vec::new();
+            slow_joins((&x, &y), (1 << n) - 1, &mut joins);
+            assert_eq!(answer.pairs, joins);
+        }
     }
 }
 
@@ -168,17 +169,70 @@ fn every_order(n: usize, live: &[u16], joins: &mut Vec<u16>, visit: &mut dyn FnM
 #[test]
 fn no_other_order_beats_the_proven_tree() {
     let mut random = Random::new(104);
-    for round in 0..40 {
-        let n = 1 + round % 5;
-        let (x, y) = sinks(&mut random, SinkKind::GOOD[round / 5 % 4], n);
-        let proven = searched(&x, &y, full_steps(n)).unwrap();
-        let mut least = u32::MAX;
-        let live: Vec<u16> = (0..n as u16).collect();
-        every_order(n, &live, &mut Vec::new(), &mut |joins| {
-            least = least.min(treed(&x, &y, joins).unwrap().total);
-        });
-        assert_eq!(proven.total, least);
+    let kinds = [SinkKind::GOOD, SinkKind::GOOD].concat();
+    for n in 1..=5 {
+        for &kind in &kinds {
+            let (x, y) = sinks(&mut random, kind, n);
+            let proven = searched(&x, &y, full_steps(n)).unwrap();
+            let mut least = u32::MAX;
+            let live: Vec<u16> = (0..n as u16).collect();
+            every_order(n, &live, &mut Vec::new(), &mut |joins| {
+                least = least.min(treed(&x, &y, joins).unwrap().total);
+            });
+            assert_eq!(proven.total, least);
+        }
     }
+}
+
+#[test]
+fn two_pins_on_one_place() {
+    let (x, y) = ([3, 3], [-5, -5]);
+    let below = searched(&x, &y, 0).unwrap();
+    assert_eq!((below.proven, below.steps), (false, 0));
+    assert_eq!(below.table, [0, 0, 0, 4_294_967_295]);
+    let at = searched(&x, &y, 1).unwrap();
+    assert_eq!((at.proven, at.steps), (true, 1));
+    assert_eq!(at.table, [0; 4]);
+    for answer in [below, at] {
+        assert_eq!((answer.total, answer.pairs), (0, vec![0, 1]));
+        assert_eq!((answer.u, answer.v), (vec![-4; 3], vec![16; 3]));
+        assert_eq!(answer.wires, [0; 3]);
+    }
+}
+
+#[test]
+fn four_pins_on_two_places() {
+    let (x, y) = ([0, 10, 0, 10], [0; 4]);
+    let below = searched(&x, &y, 24).unwrap();
+    let at = searched(&x, &y, 25).unwrap();
+    assert_eq!((below.proven, at.proven), (false, true));
+    // By subsets of pins 0 to 3: only those within one place cost nothing.
+    let table = [0, 0, 0, 10, 0, 0, 10, 10, 0, 10, 0, 10, 10, 10, 10, 10];
+    assert_eq!(at.table, table);
+    for answer in [below, at] {
+        assert_eq!((answer.total, answer.pairs), (20, vec![0, 2, 1, 3, 4, 5]));
+        assert_eq!(answer.wires, [0, 0, 0, 0, 10, 10, 0]);
+        assert_eq!(answer.u, [0, 20, 0, 20, 0, 20, 10]);
+        assert_eq!(answer.v, [0, 20, 0, 20, 0, 20, 10]);
+    }
+}
+
+#[test]
+fn twelve_pins_on_one_place() {
+    let (x, y) = ([1; 12], [0; 12]);
+    let at = searched(&x, &y, full_steps(12)).unwrap();
+    assert_eq!((at.proven, at.steps, at.total), (true, 261_625, 0));
+    assert_eq!(at.table, [0; 4096]);
+    assert_eq!((at.u, at.v), (vec![2; 23], vec![2; 23]));
+    assert_eq!(at.wires, [0; 23]);
+    // All sums are 0, so the first split stays: the lowest pin by itself.
+    let first: Vec<u16> = (0..11).flat_map(|i| [10 - i, 11 + i]).collect();
+    assert_eq!(at.pairs, first);
+    // All diameters are 0, so the two lowest live nodes are joined in turn.
+    let below = searched(&x, &y, full_steps(12) - 1).unwrap();
+    assert_eq!((below.proven, below.total), (false, 0));
+    assert_eq!(below.pairs, (0..22).collect::<Vec<u16>>());
+    assert_eq!(below.wires, [0; 23]);
 }
 
 #[test]
@@ -189,7 +243,7 @@ fn search_refusals_leave_every_buffer() {
         (&[], &[], Refusal::NoSink),
         (&[8; 13], &[8; 13], Refusal::TooManySinks),
         (&[0, 0, -1_000_001], &[0, 0, 1], Refusal::OutOfRange(2)),
-        (&[0, 4, 0], &[0, 0, 0], Refusal::SamePlace(2)),
+        (&[0, 4, 0], &[0, 0, 0], Refusal::ShortBuffer),
     ];
     for (x, y, refusal) in cases {
         let mut answer = Answer::with_room(0, 0);
@@ -219,15 +273,18 @@ fn a_short_buffer_leaves_the_others() {
 
 #[test]
 fn twelve_sinks_at_budgets_around_the_full_count() {
-    let (x, y) = sinks(&mut Random::new(105), SinkKind::Uniform, 12);
-    let full = full_steps(12);
-    let below = searched(&x, &y, full - 1).unwrap();
-    assert_eq!((below.proven, below.steps), (false, full - 1));
-    let at = searched(&x, &y, full).unwrap();
-    assert_eq!((at.proven, at.steps), (true, full));
-    assert!(at.total <= below.total);
-    // All but the last subset are finished one step before the end.
-    assert_eq!(at.table[..4095], below.table[..4095]);
-    assert_eq!(searched(&x, &y, u64::MAX).unwrap().steps, full);
-    assert_eq!(searched(&x, &y, 0).unwrap().table[3], u32::MAX);
+    let mut random = Random::new(105);
+    for kind in SinkKind::GOOD {
+        let (x, y) = sinks(&mut random, kind, 12);
+        let full = full_steps(12);
+        let below = searched(&x, &y, full - 1).unwrap();
+        assert_eq!((below.proven, below.steps), (false, full - 1));
+        let at = searched(&x, &y, full).unwrap();
+        assert_eq!((at.proven, at.steps), (true, full));
+        assert!(at.total <= below.total);
+        // All but the last subset are finished one step before the end.
+        assert_eq!(at.table[..4095], below.table[..4095]);
+        assert_eq!(searched(&x, &y, u64::MAX).unwrap().steps, full);
+        assert_eq!(searched(&x, &y, 0).unwrap().table[3], u32::MAX);
+    }
 }

@@ -20,7 +20,7 @@ use Rattle.embedding.specs.Joins.{left, right, named, badPair, firstBad,
 use Rattle.embedding.specs.Embedding.{checkOrder, checkRoom}
 use Rattle.plane.specs.Refusals.{andThen}
 use Rattle.embedding.specs.Sound.{Sound}
-use Rattle.embedding.proofs.Any.{any-none}
+use Rattle.lists.proofs.Any.{any-none}
 use Rattle.embedding.proofs.Flags.{or-no}
 
 -- entry j stands in pair j / 2, first or second
@@ -96,7 +96,7 @@ module _ (n : ℕ) (js : List ℕ) where
   unfolding checkJoins
   joins-accepted w = rw (eq-eqb (length js) (2 * (n - 1)) (w .count), any-none (badPair n js) (n - 1) (not-bad w))
 
--- ---- refusals 1 to 6
+-- ---- refusals 1 to 4 and 6
 pub both-pass : (a b : Checked) → andThen a b ≡ Fine → (a ≡ Fine) × (b ≡ Fine)
 both-pass Fine b e = (refl, e)
 both-pass (Refused r) b e = let z : _≡_ {A = ℕ} 0 1 = cc in let x : ⊥ = omega arith in absurd x

@@ -10,7 +10,7 @@ use lib.Dec.{eqb, leb}
 use lib.ListN.{length, getD, set, length-set, replicate, getD-replicate, length-replicate}
 use lib.Seq.{getD-set-same, getD-set-other}
 use Rattle.embedding.specs.Joins.{left, right, named, badPair}
-use Rattle.embedding.proofs.Any.{no-both, any-more}
+use Rattle.lists.proofs.Any.{no-both, any-more}
 
 -- the flag of each node tells whether the first k entries name it
 abbrev pub Flags : List ℕ → ℕ → List Bool → Type 0

@@ -1,5 +1,4 @@
 -- The laws of embedding: what the check of joins accepts; nodes, parents and places of an accepted order; what the arrays of the code come to; and what the tree is worth.
-pub mod Any
 pub mod Flags
 pub mod Accepted
 pub mod Parents
@@ -11,6 +10,7 @@ pub mod Whole
 pub mod Permuted
 pub mod Joined
 pub mod Theorem4
+pub mod OnePlace
 pub mod Reaches
 pub mod Described
 pub mod ZeroSkew

@@ -30,7 +30,7 @@ wires s js = tab (wire s js) (2 * s .n - 1)
 abbrev pub total : Sinks → List ℕ → ℕ
 total s js = sumTo (λ i. d s js (s .n + i)) (s .n - 1) + d s js (2 * s .n - 2)
 
--- refusals 1 to 6
+-- refusals 1 to 4 and 6
 unfoldable pub checkOrder : List ℤ → List ℤ → List ℕ → Checked
 checkOrder xs ys js = andThen (checkSinks 512 xs ys) (checkJoins (length xs) js)
 

@@ -1,4 +1,4 @@
-// The checks of embedding: refusals 1 to 7.
+// The checks of embedding: refusals 1 to 4, 6 and 7.
 ghost use mathlib.Core.Path.{_≡_};
 ghost use Rattle.embedding.specs.Embedding.{checkOrder, checkRoom};
 use crate::joins;
@@ -6,7 +6,7 @@ use plane::refusal::Checked;
 use plane::refusal::Refusal;
 use plane::sinks;
 
-// Refusals 1 to 6: the sinks, then the joins.
+// Refusals 1 to 4 and 6: the sinks, then the joins.
 pub fn check_order(xs: &[i32], ys: &[i32], js: &[u16]) -> Checked
     ensures { λ r. ⌜ r ≡ checkOrder (now (xs .entry)) (now (ys .entry)) (now (js .entry)) ⌝ }
 {

@@ -36,7 +36,7 @@ pub fn embed_sound(
     wires::total_wire(ds, n)
 }
 
-// Refusals 1 to 7 in order, else the total, with the places and the wires in the lent buffers.
+// Refusals 1 to 4, 6 and 7 in order, else the total, with the places and the wires in the lent buffers.
 pub fn embed(
     xs: &[i32],
     ys: &[i32],

@@ -16,12 +16,13 @@ use Rattle.search.specs.Rooms.{checkSearch}
 use Rattle.search.specs.Searching.{tableOf, joinsFound, found, foundAfter, ifTree}
 use Rattle.search.specs.declared.search.Searched.{Searched}
 
--- a call with the sinks' x and y (its buffers have room for whatever four sinks fill, or as much as is said), the sink file of some sinks, the check of a
--- file's form up to its last tag, or what the program prints for a file
+-- a call with the sinks' x and y (its buffers have room for whatever twelve sinks fill, or as much as is said), only what a search says, the sink file of some
+-- sinks, the check of a file's form up to its last tag, or what the program prints for a file
 pub data Call : Type 0 where
   embed : (xs ys : List ℤ) (js : List ℕ) (room : ℕ) → Call
   join : (xs ys : List ℤ) (room : ℕ) → Call
   search : (xs ys : List ℤ) (budget : ℕ) → Call
+  say : (xs ys : List ℤ) (budget : ℕ) → Call
   check : (limit : ℕ) (xs ys : List ℤ) → Call
   steps : (n : ℕ) → Call
   file : (xs ys : List ℤ) → Call
@@ -46,7 +47,7 @@ pub record Outcome : Type 0 where
   pub ws : List ℕ
 
 abbrev pub searchSays : List ℤ → List ℤ → ℕ → Searched
-searchSays xs ys budget = foundAfter (checkSearch xs ys 16 6 7 7 7) (found (sinksAt xs ys) budget)
+searchSays xs ys budget = foundAfter (checkSearch xs ys 4096 22 23 23 23) (found (sinksAt xs ys) budget)
 
 abbrev pub says : Said → Outcome
 says a = record { said = a; table = []; js = []; us = []; vs = []; ws = [] }
@@ -80,6 +81,7 @@ outcome (search xs ys budget) =
       vs = ifTree (searchSays xs ys budget) (placesV (sinksAt xs ys) (joinsFound (sinksAt xs ys) budget));
       ws = ifTree (searchSays xs ys budget) (wires (sinksAt xs ys) (joinsFound (sinksAt xs ys) budget));
     }
+outcome (say xs ys budget) = says (searched (searchSays xs ys budget))
 outcome (check limit xs ys) = says (checked (checkSinks limit xs ys))
 outcome (steps n) = says (counted (stepCount n))
 outcome (file xs ys) = says (bytes (sinkFile xs ys))

@@ -1,45 +1,23 @@
--- Document 01, "Table of checked examples": P1 to P12 as one table under one statement. Further rows show the ties of joining by least diameter, refusals 1 and 5 to 8, case D as a file and as text.
-use mathlib.Core.Path.{_≡_, refl}
+-- Document 01, "Table of checked examples": P1 to P12 as one table under one statement. Further rows show the ties of joining by least diameter, pins that share a place, refusals 1 and 6 to 8, case D as a file and as text.
 use mathlib.Core.Bool.{true, false}
-use mathlib.Core.List.{List, [], _∷_, map}
+use mathlib.Core.List.{List, [], _∷_, _++_}
 use lib.IntN.{pos, negsuc}
-use lib.Count.{ones, onesIn, trailingZeros}
-use Rattle.zero_skew.specs.Box.{greatest, least, diameter}
-use Rattle.zero_skew.specs.Order.{sinksOf}
-use Rattle.plane.specs.Sinks.{checkSinks}
-use Rattle.plane.specs.declared.refusal.Refusal.the-variants.{Lists, NoSink, TooMany, Outside, Repeated, Joins, Room, Form}
+use lib.ListN.{replicate}
+use Rattle.plane.specs.declared.refusal.Refusal.the-variants.{Lists, NoSink, TooMany, Outside, Joins, Room, Form}
 use Rattle.plane.specs.declared.refusal.Checked.the-variants.{Fine, Refused}
-use Rattle.embedding.specs.Joins.{checkJoins}
-use Rattle.embedding.specs.Nodes.{climb, node, parent}
-use Rattle.embedding.specs.Embedding.{checkOrder, answer}
 use Rattle.embedding.specs.declared.embed.Embedded.the-variants.{Tree, NoTree}
-use Rattle.nearest.specs.Nearest as nearest
-use Rattle.nearest.specs.Calls.{checkNearest}
 use Rattle.nearest.specs.declared.order.Joined.the-variants.{Order}
-use Rattle.search.specs.Subsets.{rising, keep, sinksIn, diam, isPart, splits}
-use Rattle.search.specs.Table.{stepsOf, steps, blanks, tableAfter}
-use Rattle.search.specs.Kept.{firstOr, keptPart, keptIn, joinCount, nodeIn, pairsOf}
-use Rattle.search.specs.Rooms.{checkRooms, checkSearch}
-use Rattle.search.specs.Searching.{joinsFound, found as foundBy}
 use Rattle.search.specs.declared.search.Searched.the-variants as found
-use Rattle.house.specs.Bytes.{big, numberAt}
-use Rattle.house.specs.Fields.{field, records, places, firsts, seconds}
-use Rattle.house.specs.Files.{sinkFile}
-use Rattle.house.specs.Form.{bodyAt, fieldAt, formFrom, past}
-use Rattle.house.specs.Reading.{checkSinkFile}
-use Rattle.lines.specs.Brackets.{brackets}
-use Rattle.lines.specs.Decimal.{digits, decimal, signed}
-use Rattle.lines.specs.Lines.{firstLine, secondLine, parentField, nodeLine, nodeLines, treeText, refusalLine}
-use Rattle.lines.specs.Program as program
 use Rattle.examples.specs.Example as example
-use Rattle.examples.specs.Example.{Call, embed, join, search, check, file, form, print, Outcome, embedded, joined, searched, checked, counted, bytes, outcome}
+use Rattle.examples.specs.Example.{Call, embed, join, search, say, check, file, form, print, Outcome, embedded, joined, searched, checked, counted, bytes, outcome}
 
 pub record Row : Type 0 where
   pub call : Call
   pub gives : Outcome
 
-unfoldable pub table : List Row
-table =
+-- the rows that the prover computes
+unfoldable pub computed : List Row
+computed =
     -- P1: "no sinks: 2"
     record {
       call = embed [] [] [] 7;
@@ -165,10 +143,35 @@ table =
       call = embed (pos 0 ∷ []) [] [] 7;
       gives = record { said = embedded (NoTree Lists); table = []; js = []; us = []; vs = []; ws = [] };
     }
-    -- 5: the lowest sink that repeats an earlier one
+    -- two pins on one place: no wire, proven
+    ∷ record {
+      call = search (pos 3 ∷ pos 3 ∷ []) (negsuc 4 ∷ negsuc 4 ∷ []) 1;
+      gives = record { said = searched (found.Tree (record { total = 0; steps = 1; proven = true })); table = 0 ∷ 0 ∷ 0 ∷ 0 ∷ []; js = 0 ∷ 1 ∷ []; us = negsuc 3 ∷ negsuc 3 ∷ negsuc 3 ∷ []; vs = pos 16 ∷ pos 16 ∷ pos 16 ∷ []; ws = 0 ∷ 0 ∷ 0 ∷ [] };
+    }
+    -- and below F(2) the same tree, unproven
+    ∷ record {
+      call = search (pos 3 ∷ pos 3 ∷ []) (negsuc 4 ∷ negsuc 4 ∷ []) 0;
+      gives = record { said = searched (found.Tree (record { total = 0; steps = 0; proven = false })); table = 0 ∷ 0 ∷ 0 ∷ 4294967295 ∷ []; js = 0 ∷ 1 ∷ []; us = negsuc 3 ∷ negsuc 3 ∷ negsuc 3 ∷ []; vs = pos 16 ∷ pos 16 ∷ pos 16 ∷ []; ws = 0 ∷ 0 ∷ 0 ∷ [] };
+    }
+    -- four pins on two places: those on one place are joined first, without wire
+    ∷ record {
+      call = search (pos 0 ∷ pos 10 ∷ pos 0 ∷ pos 10 ∷ []) (pos 0 ∷ pos 0 ∷ pos 0 ∷ pos 0 ∷ []) 25;
+      gives = record { said = searched (found.Tree (record { total = 20; steps = 25; proven = true })); table = 0 ∷ 0 ∷ 0 ∷ 10 ∷ 0 ∷ 0 ∷ 10 ∷ 10 ∷ 0 ∷ 10 ∷ 0 ∷ 10 ∷ 10 ∷ 10 ∷ 10 ∷ 10 ∷ []; js = 0 ∷ 2 ∷ 1 ∷ 3 ∷ 4 ∷ 5 ∷ []; us = pos 0 ∷ pos 20 ∷ pos 0 ∷ pos 20 ∷ pos 0 ∷ pos 20 ∷ pos 10 ∷ []; vs = pos 0 ∷ pos 20 ∷ pos 0 ∷ pos 20 ∷ pos 0 ∷ pos 20 ∷ pos 10 ∷ []; ws = 0 ∷ 0 ∷ 0 ∷ 0 ∷ 10 ∷ 10 ∷ 0 ∷ [] };
+    }
+    -- by least diameter too: 0 is the least
+    ∷ record {
+      call = join (pos 0 ∷ pos 10 ∷ pos 0 ∷ pos 10 ∷ []) (pos 0 ∷ pos 0 ∷ pos 0 ∷ pos 0 ∷ []) 6;
+      gives = record { said = joined Order; table = []; js = 0 ∷ 2 ∷ 1 ∷ 3 ∷ 4 ∷ 5 ∷ []; us = []; vs = []; ws = [] };
+    }
+    -- five pins on one place: the lower first number, then the lower second
+    ∷ record {
+      call = join (pos 8 ∷ pos 8 ∷ pos 8 ∷ pos 8 ∷ pos 8 ∷ []) (pos 3 ∷ pos 3 ∷ pos 3 ∷ pos 3 ∷ pos 3 ∷ []) 8;
+      gives = record { said = joined Order; table = []; js = 0 ∷ 1 ∷ 2 ∷ 3 ∷ 4 ∷ 5 ∷ 6 ∷ 7 ∷ []; us = []; vs = []; ws = [] };
+    }
+    -- given another order, the second pin on a place has a wire of its own
     ∷ record {
       call = embed (pos 0 ∷ pos 4 ∷ pos 0 ∷ []) (pos 0 ∷ pos 0 ∷ pos 0 ∷ []) (0 ∷ 1 ∷ 3 ∷ 2 ∷ []) 7;
-      gives = record { said = embedded (NoTree (Repeated 2)); table = []; js = []; us = []; vs = []; ws = [] };
+      gives = record { said = embedded (Tree 12); table = []; js = []; us = pos 0 ∷ pos 8 ∷ pos 0 ∷ pos 4 ∷ pos 4 ∷ []; vs = pos 0 ∷ pos 8 ∷ pos 0 ∷ pos 4 ∷ pos 4 ∷ []; ws = 4 ∷ 4 ∷ 4 ∷ 0 ∷ 0 ∷ [] };
     }
     -- 6: half a pair
     ∷ record {
@@ -297,12 +300,20 @@ table =
     }
     ∷ []
 
+-- and one with too many steps for that. All twelve pins on one place: proven, and no wire
+unfoldable pub twelve : Row
+twelve =
+    record {
+      call = say (replicate 12 (pos 3)) (replicate 12 (negsuc 4)) 261625;
+      gives = record { said = searched (found.Tree (record { total = 0; steps = 261625; proven = true })); table = []; js = []; us = []; vs = []; ws = [] };
+    }
+
+-- P1 to P12, and the further rows
+unfoldable pub table : List Row
+table = computed ++ (twelve ∷ [])
+
 unfoldable pub called : Row → Outcome
 called r = outcome (r .call)
 
 unfoldable pub given : Row → Outcome
 given r = r .gives
-
-pub table-holds : map called table ≡ map given table
-unfolding table called given outcome checkSinks checkJoins checkOrder answer climb node parent greatest least diameter sinksOf nearest.best nearest.joins nearest.order checkNearest rising keep sinksIn diam isPart splits stepsOf steps blanks tableAfter firstOr keptPart keptIn joinCount nodeIn pairsOf checkRooms checkSearch joinsFound foundBy big numberAt field records places firsts seconds sinkFile bodyAt fieldAt formFrom past checkSinkFile brackets digits decimal signed firstLine secondLine parentField nodeLine nodeLines treeText refusalLine program.joinsOf program.linesOf program.answerText program.textOf trailingZeros ones onesIn
-table-holds = refl

@@ -31,11 +31,11 @@ ysIn f = seconds (valueOf f 2)
 abbrev pub joinsIn : List ℕ → List ℕ
 joinsIn f = numbersIn 2 (valueOf f 3)
 
--- refusals 8 and 2 to 5
+-- refusals 8 and 2 to 4
 unfoldable pub checkSinkFile : List ℕ → Checked
 checkSinkFile f = andThen (form 2 f) (checkSinks 512 (xsIn f) (ysIn f))
 
--- refusals 8 and 2 to 6
+-- refusals 8, 2 to 4 and 6
 unfoldable pub checkJoinedFile : List ℕ → Checked
 checkJoinedFile f = andThen (form 3 f) (checkOrder (xsIn f) (ysIn f) (joinsIn f))
 
@@ -55,7 +55,7 @@ unfoldable pub checkTags : List ℤ → List ℤ → List ℕ → List ℕ → L
 checkTags xs ys js v4 v5 =
     checkNodes (placesU (sinksAt xs ys) js) (placesV (sinksAt xs ys) js) (wires (sinksAt xs ys) js) (firsts v4) (seconds v4) (numbersIn 4 v5)
 
--- refusals 8, 2 to 6 and 9
+-- refusals 8, 2 to 4, 6 and 9
 unfoldable pub checkTreeFile : List ℕ → Checked
 checkTreeFile f =
     andThen (form 5 f)
@@ -71,7 +71,7 @@ abbrev pub taken : {A : Type 0} → Reading → List A → List A
 taken (Sinks n) l = l
 taken (NotRead r) l = []
 
--- refusals 8 to 5 as they were checked, the sinks of the file, the buffers before, the answer, and the buffers after
+-- refusals 8 and 2 to 4 as they were checked, the sinks of the file, the buffers before, the answer, and the buffers after
 pub record ReadsSinks (checked : Checked) (fx fy xs ys : List ℤ) (said : Reading) (xs′ ys′ : List ℤ) : Type 0 where
   pub answers : said ≡ readAfter (andThen checked (andThen (roomFor (length fx) (length xs)) (roomFor (length fx) (length ys)))) (length fx)
   pub writes-x : xs′ ≡ front (taken said fx) xs

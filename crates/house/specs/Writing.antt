@@ -24,7 +24,7 @@ abbrev pub bytesOf : Written → List ℕ → List ℕ
 bytesOf (Bytes n) file = file
 bytesOf (NotWritten r) file = []
 
--- refusals 1 to 6 as they were checked, the file, the buffer before, the answer, and the buffer after
+-- refusals 1 to 4 and 6 as they were checked, the file, the buffer before, the answer, and the buffer after
 pub record Writes (checked : Checked) (file out : List ℕ) (said : Written) (out′ : List ℕ) : Type 0 where
   pub answers : said ≡ writtenAfter (andThen checked (roomFor (length file) (length out))) (length file)
   pub writes : out′ ≡ front (bytesOf said file) out

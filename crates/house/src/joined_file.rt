@@ -31,7 +31,7 @@ pub(crate) fn put_joined(out: &mut [u8], xs: &[i32], ys: &[i32], js: &[u16]) -> 
     record::put_nodes(out, at, 3, js)
 }
 
-// Refusals 1 to 7, else the joined file in the lent buffer.
+// Refusals 1 to 4, 6 and 7, else the joined file in the lent buffer.
 pub fn write_joined(xs: &[i32], ys: &[i32], js: &[u16], out: &mut [u8]) -> Written
     ensures { λ r. ⌜ Writes (checkOrder (now (xs .entry)) (now (ys .entry)) (now (js .entry))) (joinedFile (now (xs .entry)) (now (ys .entry)) (now (js .entry))) (now (out .entry)) r (now (out .exit)) ⌝ }
 {
@@ -59,7 +59,7 @@ fn check_pairs(v: &[u8], n: usize) -> Checked
     joins::check_joins(&js[0..m], n)
 }
 
-// Refusals 2 to 6, of the values of tags 2 and 3.
+// Refusals 2 to 4 and 6, of the values of tags 2 and 3.
 pub(crate) fn check_values(v2: &[u8], v3: &[u8]) -> Checked
     ensures { λ r. ⌜ r ≡ checkOrder (firsts (now (v2 .entry))) (seconds (now (v2 .entry))) (numbersIn 2 (now (v3 .entry))) ⌝ }
 {
@@ -70,7 +70,7 @@ pub(crate) fn check_values(v2: &[u8], v3: &[u8]) -> Checked
     check_pairs(v3, v2.len() / 8)
 }
 
-// Refusals 8 and 2 to 6.
+// Refusals 8, 2 to 4 and 6.
 fn check_joined_file(file: &[u8]) -> Checked
     ensures { λ r. ⌜ r ≡ checkJoinedFile (now (file .entry)) ⌝ }
 {
@@ -103,7 +103,7 @@ pub(crate) fn take_joins(file: &[u8], xs: &mut [i32], ys: &mut [i32], js: &mut [
     Reading::Sinks(n)
 }
 
-// Refusals 8, 2 to 6 and 7, else the number of sinks, with their coordinates and the pairs in the lent buffers.
+// Refusals 8, 2 to 4, 6 and 7, else the number of sinks, with their coordinates and the pairs in the lent buffers.
 pub fn read_joined(file: &[u8], xs: &mut [i32], ys: &mut [i32], js: &mut [u16]) -> Reading
     ensures { λ r. ⌜ ReadsJoins (checkJoinedFile (now (file .entry))) (xsIn (now (file .entry))) (ysIn (now (file .entry))) (joinsIn (now (file .entry))) (now (xs .entry)) (now (ys .entry)) (now (js .entry)) r (now (xs .exit)) (now (ys .exit)) (now (js .exit)) ⌝ }
 {

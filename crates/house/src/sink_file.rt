@@ -37,7 +37,7 @@ pub(crate) fn put_sinks(out: &mut [u8], xs: &[i32], ys: &[i32]) -> usize
     record::put_places(out, at, 2, xs, ys)
 }
 
-// Refusals 1 to 5 and 7, else the sink file in the lent buffer.
+// Refusals 1 to 4 and 7, else the sink file in the lent buffer.
 pub fn write_sinks(xs: &[i32], ys: &[i32], out: &mut [u8]) -> Written
     ensures { λ r. ⌜ Writes (checkSinks 512 (now (xs .entry)) (now (ys .entry))) (sinkFile (now (xs .entry)) (now (ys .entry))) (now (out .entry)) r (now (out .exit)) ⌝ }
 {
@@ -51,7 +51,7 @@ pub fn write_sinks(xs: &[i32], ys: &[i32], out: &mut [u8]) -> Written
     Written::Bytes(put_sinks(out, xs, ys))
 }
 
-// Refusals 2 to 5, of the sinks in a value of places.
+// Refusals 2 to 4, of the sinks in a value of places.
 pub(crate) fn check_places(v: &[u8]) -> Checked
     ensures { λ r. ⌜ r ≡ checkSinks 512 (firsts (now (v .entry))) (seconds (now (v .entry))) ⌝ }
 {
@@ -65,7 +65,7 @@ pub(crate) fn check_places(v: &[u8]) -> Checked
     sinks::check_sinks(&xs[0..n], &ys[0..n], 512)
 }
 
-// Refusals 8 and 2 to 5.
+// Refusals 8 and 2 to 4.
 fn check_sink_file(file: &[u8]) -> Checked
     ensures { λ r. ⌜ r ≡ checkSinkFile (now (file .entry)) ⌝ }
 {
@@ -93,7 +93,7 @@ fn take_sinks(file: &[u8], xs: &mut [i32], ys: &mut [i32]) -> Reading
     Reading::Sinks(n)
 }
 
-// Refusals 8, 2 to 5 and 7, else the number of sinks, with their coordinates in the lent buffers.
+// Refusals 8, 2 to 4 and 7, else the number of sinks, with their coordinates in the lent buffers.
 pub fn read_sinks(file: &[u8], xs: &mut [i32], ys: &mut [i32]) -> Reading
     ensures { λ r. ⌜ ReadsSinks (checkSinkFile (now (file .entry))) (xsIn (now (file .entry))) (ysIn (now (file .entry))) (now (xs .entry)) (now (ys .entry)) r (now (xs .exit)) (now (ys .exit)) ⌝ }
 {

@@ -22,9 +22,9 @@ use crate::number;
 use crate::record;
 use embedding::check;
 use embedding::embed;
+use plane::measure;
 use plane::refusal::Checked;
 use plane::refusal::Refusal;
-use plane::sinks;
 
 // The fields of tags 4 and 5, and the byte after them.
 fn put_tags(out: &mut [u8], at: usize, us: &[i32], vs: &[i32], ws: &[u32]) -> usize
@@ -49,7 +49,7 @@ fn put_tree(out: &mut [u8], xs: &[i32], ys: &[i32], js: &[u16]) -> usize
     put_tags(out, at, &us[0..m], &vs[0..m], &ws[0..m])
 }
 
-// Refusals 1 to 7, else the tree file in the lent buffer.
+// Refusals 1 to 4, 6 and 7, else the tree file in the lent buffer.
 pub fn write_tree(xs: &[i32], ys: &[i32], js: &[u16], out: &mut [u8]) -> Written
     ensures { λ r. ⌜ Writes (checkOrder (now (xs .entry)) (now (ys .entry)) (now (js .entry))) (treeFile (now (xs .entry)) (now (ys .entry)) (now (js .entry))) (now (out .entry)) r (now (out .exit)) ⌝ }
 {
@@ -68,7 +68,7 @@ fn same_at(v: &[u8], at: usize, us: &[i32], k: usize) -> bool
     requires { ⌜ (at + 4 ≤ length (now v)) × (k < length (now us)) ⌝ }
     ensures { λ r. ⌜ r ≡ equal (signed (numberAt 4 (now (v .entry)) at)) (getD (now (us .entry)) k (pos 0)) ⌝ }
 {
-    sinks::same(record::signed_at(v, at), us[k])
+    measure::same(record::signed_at(v, at), us[k])
 }
 
 // Whether node k has another U, V or wire in the values of tags 4 and 5.
@@ -146,7 +146,7 @@ fn check_tag_values(v2: &[u8], v3: &[u8], v4: &[u8], v5: &[u8]) -> Checked
     check_tags(&xs[0..n], &ys[0..n], &js[0..m], v4, v5)
 }
 
-// Refusals 8, 2 to 6 and 9.
+// Refusals 8, 2 to 4, 6 and 9.
 fn check_tree_file(file: &[u8]) -> Checked
     ensures { λ r. ⌜ r ≡ checkTreeFile (now (file .entry)) ⌝ }
 {
@@ -163,7 +163,7 @@ fn check_tree_file(file: &[u8]) -> Checked
     check_tag_values(v2, v3, field::value(file, 4), field::value(file, 5))
 }
 
-// Refusals 8, 2 to 6, 9 and 7, else the number of sinks, with their coordinates and the pairs in the lent buffers.
+// Refusals 8, 2 to 4, 6, 9 and 7, else the number of sinks, with their coordinates and the pairs in the lent buffers.
 pub fn read_tree(file: &[u8], xs: &mut [i32], ys: &mut [i32], js: &mut [u16]) -> Reading
     ensures { λ r. ⌜ ReadsJoins (checkTreeFile (now (file .entry))) (xsIn (now (file .entry))) (ysIn (now (file .entry))) (joinsIn (now (file .entry))) (now (xs .entry)) (now (ys .entry)) (now (js .entry)) r (now (xs .exit)) (now (ys .exit)) (now (js .exit)) ⌝ }
 {

@@ -10,3 +10,4 @@ pub mod Searched
 pub mod ReadSinks
 pub mod Size
 pub mod Outcomes
+pub mod Withdrawn

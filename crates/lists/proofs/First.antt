@@ -4,7 +4,7 @@ use mathlib.Core.Bool.{Bool, true, false}
 use Prim.Native.Nat.{ℕ, zero, suc, _+_, _-_, _≤_, _<_}
 use native.Mathlib.Omega.{arith}
 use native.Mathlib.Numerals.{add-one}
-use borrow.Author.Tests.{le-ltb, lt-ltb, ltb-true, ltb-false}
+use borrow.Author.Tests.{ltb-true, ltb-false}
 use lib.Dec.{ltb}
 use Rattle.lists.specs.First.{first, any}
 
@@ -59,9 +59,3 @@ seek-end {p} {n} {i} s h =
     let k : n - i ≡ 0 = omega arith in
     let q : first p i (n - i) ≡ i = rw k in
     sym q ∙ s .same
-
-pub seek-yes : {p : ℕ → Bool} {n i : ℕ} → Seek p n i → i < n → p i ≡ true → true ≡ any p n
-seek-yes {p} {n} {i} s h e = sym (lt-ltb (first p 0 n) n (rw (sym (seek-stop s h e)) h))
-
-pub seek-no : {p : ℕ → Bool} {n i : ℕ} → Seek p n i → n ≤ i → false ≡ any p n
-seek-no {p} {n} {i} s h = sym (le-ltb (first p 0 n) n (rw (sym (seek-end s h)) h))

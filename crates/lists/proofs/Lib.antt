@@ -1,6 +1,7 @@
 -- The laws of what loops share.
 pub mod Tests
 pub mod First
+pub mod Any
 pub mod Grow
 pub mod Onto
 pub mod Sums

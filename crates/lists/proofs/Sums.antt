@@ -2,7 +2,7 @@
 use mathlib.Core.Path.{_≡_, refl}
 use mathlib.Core.Logic.{⊎-elim}
 use mathlib.Core.Bool.{cond}
-use Prim.Native.Nat.{ℕ, zero, suc, _+_, _*_, _<_}
+use Prim.Native.Nat.{ℕ, zero, suc, _+_, _*_, _≤_, _<_}
 use native.Mathlib.Nat.{zero-mul, one-mul}
 use native.Mathlib.Omega.{arith}
 use lib.Dec.{eqb}
@@ -17,6 +17,12 @@ sum-plus f g (suc n) = omega (arith, sum-plus f g n)
 pub sum-none : (f : ℕ → ℕ) (n : ℕ) → ((i : ℕ) → i < n → f i ≡ 0) → sumTo f n ≡ 0
 sum-none f zero h = refl
 sum-none f (suc n) h = omega (arith, h n (omega arith), sum-none f n (λ i p. h i (omega arith)))
+
+-- no term is above the sum
+pub sum-over : (f : ℕ → ℕ) (n i : ℕ) → i < n → f i ≤ sumTo f n
+sum-over f zero i h = absurd (omega arith)
+sum-over f (suc n) i h =
+    ⊎-elim (λ p. omega (arith, sum-over f n i p)) (λ p. let e : n ≡ i = omega arith in rw e (omega arith)) (or-lt i n)
 
 -- f at j, and 0 elsewhere
 unfoldable pub only : ℕ → (ℕ → ℕ) → ℕ → ℕ

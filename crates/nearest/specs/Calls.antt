@@ -21,7 +21,7 @@ use Rattle.nearest.specs.Nearest.{order}
 abbrev pub orderAt : List ℤ → List ℤ → List ℕ
 orderAt xs ys = order (sinksAt xs ys) (length xs)
 
--- ---- joining: refusals 1 to 5, then 7, where the lent buffer has room for so many node numbers
+-- ---- joining: refusals 1 to 4, then 7, where the lent buffer has room for so many node numbers
 unfoldable pub checkNearest : List ℤ → List ℤ → ℕ → Checked
 checkNearest xs ys room = andThen (checkSinks 512 xs ys) (refuseIf (ltb room (2 * (length xs - 1))) Room Fine)
 
@@ -39,7 +39,7 @@ pub record Joining (xs ys : List ℤ) (js : List ℕ) (said : Joined) (js′ : L
   pub answers : said ≡ orderAfter (checkNearest xs ys (length js))
   pub writes : js′ ≡ front (ifOrder said (orderAt xs ys)) js
 
--- ---- joining and embedding: refusals 1 to 5, then 7 over the four buffers; else the total
+-- ---- joining and embedding: refusals 1 to 4, then 7 over the four buffers; else the total
 unfoldable pub treeAnswer : List ℤ → List ℤ → ℕ → ℕ → ℕ → ℕ → Embedded
 treeAnswer xs ys rj ru rv rw =
     treeAfter (andThen (checkNearest xs ys rj) (checkRoom (2 * length xs - 1) ru rv rw)) (total (sinksAt xs ys) (orderAt xs ys))

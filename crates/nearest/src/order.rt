@@ -76,7 +76,7 @@ pub fn order_sound(xs: &[i32], ys: &[i32], js: &mut [u16])
     }
 }
 
-// Refusals 1 to 5, and 7 where the buffer of joins is too short.
+// Refusals 1 to 4, and 7 where the buffer of joins is too short.
 pub fn check_nearest(xs: &[i32], ys: &[i32], room: usize) -> Checked
     ensures { λ r. ⌜ r ≡ checkNearest (now (xs .entry)) (now (ys .entry)) room ⌝ }
 {
@@ -90,7 +90,7 @@ pub fn check_nearest(xs: &[i32], ys: &[i32], room: usize) -> Checked
     Checked::Fine
 }
 
-// Refusals 1 to 5 and 7, else the joining order in the lent buffer.
+// Refusals 1 to 4 and 7, else the joining order in the lent buffer.
 pub fn join_nearest(xs: &[i32], ys: &[i32], js: &mut [u16]) -> Joined
     ensures { λ r. ⌜ Joining (now (xs .entry)) (now (ys .entry)) (now (js .entry)) r (now (js .exit)) ⌝ }
 {

@@ -24,7 +24,7 @@ pub fn tree_sound(
     embed::embed_sound(xs, ys, &js[0..k], us, vs, ws)
 }
 
-// Refusals 1 to 5 and 7, else the total, with the joins, the places and the wires in the lent buffers.
+// Refusals 1 to 4 and 7, else the total, with the joins, the places and the wires in the lent buffers.
 pub fn embed_nearest(
     xs: &[i32],
     ys: &[i32],

@@ -4,12 +4,13 @@ use mathlib.Core.Bool.{Bool, true, false, not, _&&_}
 use mathlib.Core.List.{List}
 use Prim.Native.Nat.{ℕ, _≤_, _<_}
 use native.Mathlib.Omega.{arith}
-use borrow.Author.Tests.{ltb-false, eqb-true, eqb-false}
+use borrow.Author.Tests.{le-ltb, ltb-false, eq-eqb, eqb-true, ne-eqb, eqb-false}
 use lib.Dec.{T, ltb, eqb}
 use lib.IntN.{ℤ, pos}
 use lib.ListN.{length, getD}
 use Rattle.lists.proofs.Tests.{and-both}
 use Rattle.lists.proofs.First.{any-no}
+use Rattle.lists.proofs.Any.{any-none}
 use Rattle.plane.specs.Range.{inRange}
 use Rattle.plane.specs.Refusals.{refuseIf}
 use Rattle.plane.specs.Sinks.{outside, firstOutside, checkSinks, Ranged}
@@ -49,6 +50,17 @@ accepted limit xs ys q =
             inside = any-no (outside xs ys) (length xs) (d .0);
           };
     }
+
+-- and nothing more is asked: sinks may share a place
+pub accepts : (limit : ℕ) (xs ys : List ℤ) → Accepted limit xs ys → checkSinks limit xs ys ≡ Fine
+unfolding checkSinks
+accepts limit xs ys a =
+    simp (
+      eq-eqb (length xs) (length ys) (a .ranged .alike),
+      ne-eqb (length xs) 0 (λ e. omega (arith, e, a .some)),
+      le-ltb limit (length xs) (a .few),
+      any-none (outside xs ys) (length xs) (a .ranged .inside),
+    )
 
 -- the coordinates of a sink that passed are in range
 both : (a b : Bool) → not (a && b) ≡ false → T a × T b

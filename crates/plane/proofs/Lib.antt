@@ -1,4 +1,5 @@
 -- The plane's laws.
+pub mod Withdrawn
 pub mod Numbers
 pub mod Lifted
 pub mod Covering

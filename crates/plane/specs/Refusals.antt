@@ -1,8 +1,8 @@
--- Document 01, "Refusal numbers": a number and a place for each refusal. Place "none" is its own case.
+-- Document 01, "Refusal numbers": a number and a place for each refusal. Place "none" is its own case. Document 02, Q-1: "5 is withdrawn and its number stays unused."
 use mathlib.Core.Bool.{Bool, cond}
 use Prim.Native.Nat.{ℕ}
 use Rattle.plane.specs.declared.refusal.Refusal.{Refusal}
-use Rattle.plane.specs.declared.refusal.Refusal.the-variants.{Lists, NoSink, TooMany, Outside, Repeated, Joins, Room, Form, Tags, Unlike}
+use Rattle.plane.specs.declared.refusal.Refusal.the-variants.{Lists, NoSink, TooMany, Outside, Joins, Room, Form, Tags, Unlike}
 use Rattle.plane.specs.declared.refusal.Place.{Place}
 use Rattle.plane.specs.declared.refusal.Place.the-variants.{None, At}
 use Rattle.plane.specs.declared.refusal.Checked.{Checked}
@@ -13,7 +13,6 @@ number Lists = 1
 number NoSink = 2
 number TooMany = 3
 number (Outside i) = 4
-number (Repeated i) = 5
 number (Joins i) = 6
 number Room = 7
 number (Form i) = 8
@@ -25,7 +24,6 @@ place Lists = None
 place NoSink = None
 place TooMany = None
 place (Outside i) = At i
-place (Repeated i) = At i
 place (Joins i) = At i
 place Room = None
 place (Form i) = At i

@@ -1,4 +1,4 @@
--- The sinks of a call, and their check: refusals 1 to 5.
+-- The sinks of a call, and their check: refusals 1 to 4.
 use mathlib.Core.Path.{_≡_}
 use mathlib.Core.Bool.{Bool, false, not, _&&_}
 use mathlib.Core.List.{List}
@@ -6,11 +6,11 @@ use Prim.Native.Nat.{ℕ, _<_}
 use lib.Dec.{eqb, ltb}
 use lib.IntN.{ℤ, pos}
 use lib.ListN.{length, getD}
-use Rattle.lists.specs.First.{first, any}
+use Rattle.lists.specs.First.{first}
 use Rattle.zero_skew.specs.Plane.{Sinks}
-use Rattle.plane.specs.Range.{inRange, equal}
+use Rattle.plane.specs.Range.{inRange}
 use Rattle.plane.specs.Refusals.{refuseIf}
-use Rattle.plane.specs.declared.refusal.Refusal.the-variants.{Lists, NoSink, TooMany, Outside, Repeated}
+use Rattle.plane.specs.declared.refusal.Refusal.the-variants.{Lists, NoSink, TooMany, Outside}
 use Rattle.plane.specs.declared.refusal.Checked.{Checked}
 use Rattle.plane.specs.declared.refusal.Checked.the-variants.{Fine}
 
@@ -22,30 +22,18 @@ sinksAt xs ys = record { n = length xs; at = λ i. record { x = getD xs i (pos 0
 abbrev pub outside : List ℤ → List ℤ → ℕ → Bool
 outside xs ys i = not (inRange (getD xs i (pos 0)) && inRange (getD ys i (pos 0)))
 
--- sinks i and j stand on one place
-abbrev pub together : List ℤ → List ℤ → ℕ → ℕ → Bool
-together xs ys i j = equal (getD xs i (pos 0)) (getD xs j (pos 0)) && equal (getD ys i (pos 0)) (getD ys j (pos 0))
-
--- sink i repeats an earlier one
-abbrev pub repeats : List ℤ → List ℤ → ℕ → Bool
-repeats xs ys i = any (together xs ys i) i
-
--- "lowest such sink", "lowest sink that repeats an earlier one" (where there is none, the number of sinks)
+-- "lowest such sink" (where there is none, the number of sinks)
 abbrev pub firstOutside : List ℤ → List ℤ → ℕ
 firstOutside xs ys = first (outside xs ys) 0 (length xs)
 
-abbrev pub firstRepeat : List ℤ → List ℤ → ℕ
-firstRepeat xs ys = first (repeats xs ys) 0 (length xs)
-
--- the first of refusals 1 to 5 whose condition holds, where at most `limit` sinks are taken
+-- the first of refusals 1 to 4 whose condition holds, where at most `limit` sinks are taken. Sinks may share a place: "a sink is a pin, and a place may hold several" (document 02, Q-1).
 unfoldable pub checkSinks : ℕ → List ℤ → List ℤ → Checked
 checkSinks limit xs ys =
     refuseIf (not (eqb (length xs) (length ys))) Lists
     (refuseIf (eqb (length xs) 0) NoSink
     (refuseIf (ltb limit (length xs)) TooMany
     (refuseIf (ltb (firstOutside xs ys) (length xs)) (Outside (firstOutside xs ys))
-    (refuseIf (ltb (firstRepeat xs ys) (length xs)) (Repeated (firstRepeat xs ys))
-    Fine))))
+    Fine)))
 
 -- for the code alone: what an accepted check leaves
 pub record Ranged (xs ys : List ℤ) : Type 0 where

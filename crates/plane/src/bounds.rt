@@ -75,7 +75,7 @@ fn box_sound(xs: &[i32], ys: &[i32]) -> Box
     b
 }
 
-// The box of all sinks, or refusal 1 to 5.
+// The box of all sinks, or refusal 1 to 4.
 pub fn box_of(xs: &[i32], ys: &[i32]) -> Boxed
     ensures { λ r. ⌜ seen r ≡ boxAnswer (now (xs .entry)) (now (ys .entry)) ⌝ }
 {

@@ -3,7 +3,7 @@
 ghost use mathlib.Core.Path.{_≡_};
 ghost use Prim.Native.Nat.{_*_, _^_, _≤_, _<_};
 ghost use lib.Dec.{T};
-ghost use Rattle.plane.specs.Range.{inRange};
+ghost use Rattle.plane.specs.Range.{inRange, equal};
 ghost use Rattle.plane.specs.Measures.{keptAs, gridOf, uOf, vOf, leastOf, greatestOf, gap, lowOf, highOf, nearOf, lowered, unlifted};
 
 // A coordinate x or y, in grid units.
@@ -20,6 +20,13 @@ pub fn in_range(x: i32) -> bool
     ensures { λ r. ⌜ r ≡ inRange x ⌝ }
 {
     -1000000 <= x && x <= 1000000
+}
+
+// Whether two numbers with sign are equal.
+pub fn same(a: i32, b: i32) -> bool
+    ensures { λ r. ⌜ r ≡ equal a b ⌝ }
+{
+    a == b
 }
 
 pub fn on_grid(x: i32) -> Grid

@@ -2,7 +2,7 @@
 ghost use mathlib.Core.Path.{_≡_};
 ghost use Rattle.plane.specs.Refusals.{number, place};
 
-// The refusals of document 01, in its order.
+// The refusals of document 01, in its order. Number 5 is withdrawn: no refusal has it.
 pub enum Refusal {
     // 1: the lists of x and y differ in length.
     Lists,
@@ -12,8 +12,6 @@ pub enum Refusal {
     TooMany,
     // 4: the lowest sink with a coordinate outside its range.
     Outside(usize),
-    // 5: the lowest sink that repeats an earlier one.
-    Repeated(usize),
     // 6: the joining order is wrong: the smaller count of pairs, or the first bad pair.
     Joins(usize),
     // 7: a lent buffer is too short.
@@ -47,7 +45,6 @@ pub fn number_of(r: Refusal) -> u32
         Refusal::NoSink => 2,
         Refusal::TooMany => 3,
         Refusal::Outside(_) => 4,
-        Refusal::Repeated(_) => 5,
         Refusal::Joins(_) => 6,
         Refusal::Room => 7,
         Refusal::Form(_) => 8,
@@ -65,7 +62,6 @@ pub fn place_of(r: Refusal) -> Place
         Refusal::NoSink => Place::None,
         Refusal::TooMany => Place::None,
         Refusal::Outside(i) => Place::At(i),
-        Refusal::Repeated(i) => Place::At(i),
         Refusal::Joins(i) => Place::At(i),
         Refusal::Room => Place::None,
         Refusal::Form(i) => Place::At(i),

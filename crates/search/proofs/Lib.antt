@@ -31,5 +31,6 @@ pub mod KeptJoins
 -- the public call
 pub mod Finding
 pub mod Promises
+pub mod OnePlace
 pub mod Outcomes
 pub mod Calls

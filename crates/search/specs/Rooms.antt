@@ -1,4 +1,4 @@
--- Document 01, "Refusal numbers", for the exact search: 1 to 5 with at most 12 sinks, then 7.
+-- Document 01, "Refusal numbers", for the exact search: 1 to 4 with at most 12 sinks, then 7.
 use mathlib.Core.List.{List}
 use Prim.Native.Nat.{ℕ, _-_, _*_, _^_}
 use lib.Dec.{ltb}

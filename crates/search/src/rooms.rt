@@ -1,4 +1,4 @@
-// The checks of the exact search: refusals 1 to 5, then 7.
+// The checks of the exact search: refusals 1 to 4, then 7.
 ghost use mathlib.Core.Path.{_≡_};
 ghost use Prim.Native.Nat.{_<_, _≤_};
 ghost use Rattle.search.specs.Rooms.{checkRooms, checkSearch};
@@ -22,7 +22,7 @@ fn check_rooms(n: usize, table: usize, js: usize, us: usize, vs: usize, ws: usiz
     check::check_room(2 * n - 1, us, vs, ws)
 }
 
-// Refusals 1 to 5, then 7.
+// Refusals 1 to 4, then 7.
 pub fn check_search(
     xs: &[i32],
     ys: &[i32],

@@ -84,7 +84,7 @@ pub fn search_sound(
     }
 }
 
-// Searches the sinks' shortest tree, examining at most `budget` splits: refusals 1 to 5 and 7, else the total, with the work table, the joins, the places and the wires in the lent
+// Searches the sinks' shortest tree, examining at most `budget` splits: refusals 1 to 4 and 7, else the total, with the work table, the joins, the places and the wires in the lent
 // buffers. From F(n) splits on the tree is proven; below, it is that of joining by least diameter.
 pub fn search(
     xs: &[i32],

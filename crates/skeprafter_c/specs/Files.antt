@@ -17,7 +17,7 @@ use Rattle.skeprafter_c.specs.Words.{writtenWords, readWords}
 abbrev pub writeAnswer : Checked → List ℕ → ℕ → Written
 writeAnswer checked file room = writtenAfter (andThen checked (roomFor (length file) room)) (length file)
 
--- refusals 1 to 6 as they were checked, the file, the buffer before and after, and what is said
+-- refusals 1 to 4 and 6 as they were checked, the file, the buffer before and after, and what is said
 pub record Writes (checked : Checked) (file out out′ said : List ℕ) : Type 0 where
   pub does : writing.Writes checked file out (writeAnswer checked file (length out)) out′
   pub says : said ≡ writtenWords (writeAnswer checked file (length out))

@@ -7,6 +7,7 @@ pub mod Timed
 pub mod Count
 pub mod Sums
 pub mod Bound
+pub mod OnePlace
 pub mod Alike
 pub mod Placed
 pub mod Region

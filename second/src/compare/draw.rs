@@ -1,6 +1,8 @@
 //! Sinks and joining orders for the cases, good and bad.
 
-use crate::generate::{damaged_joins, good_joins, sinks, JoinDamage, Random, SinkKind};
+use crate::generate::{
+    damaged_joins, good_joins, put_together, sinks, JoinDamage, Random, SinkKind,
+};
 
 /// Lists of x and y, not always of the same length.
 pub type Lists = (Vec<i32>, Vec<i32>);
@@ -20,12 +22,28 @@ pub fn every_good(random: &mut Random, n: usize) -> Vec<Lists> {
 /// Lists about `n` sinks that are mostly refused, for more than one reason
 /// at once where that can be.
 pub fn bad(random: &mut Random, n: usize) -> Vec<Lists> {
-    let coinciding = sinks(random, SinkKind::Coinciding, n);
     let outside = sinks(random, SinkKind::OutOfRange, n);
-    let mut both = coinciding.clone();
+    let mut both = sharing(random, n);
     both.0[random.below(n)] = random.pick(&[1_000_001, -1_000_001, i32::MIN, i32::MAX]);
+    // Here the place outside may itself hold several pins.
+    let mut together = outside.clone();
+    put_together(random, &mut together);
     let unlike = unlike(random, n);
-    vec![coinciding, outside, both, unlike]
+    vec![outside, both, together, unlike]
+}
+
+/// Sinks that are accepted, several on a place.
+fn sharing(random: &mut Random, n: usize) -> Lists {
+    let kind = random.pick(&SinkKind::SHARING);
+    sinks(random, kind, n)
+}
+
+/// Any number of sinks, good but for the number: in a row or on one place.
+pub fn any_number(random: &mut Random, n: usize) -> Lists {
+    match random.below(2) {
+        0 => ((0..n as i32).collect(), vec![0; n]),
+        _ => sinks(random, SinkKind::OnePlace, n),
+    }
 }
 
 /// Lists of unlike length.
@@ -54,7 +72,8 @@ pub fn odd_counts(random: &mut Random) -> Vec<Lists> {
         (x.clone(), y[..512].to_vec()),
         (x[..512].to_vec(), y),
         (vec![2_000_000; 513], vec![2_000_000; 513]),
-        (vec![5; 512], vec![5; 512]),
+        sinks(random, SinkKind::OnePlace, 512),
+        sinks(random, SinkKind::OnePlace, 513),
         line(65_536),
         line(65_539),
     ]

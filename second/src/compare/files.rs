@@ -357,9 +357,8 @@ fn read_odd_counts(session: &mut Session, random: &mut Random) {
         return;
     }
     for n in [0, 1, 511, 512, 513, 514, 1024, 8191] {
-        let (x, y): (Vec<i32>, Vec<i32>) = ((0..n).collect(), vec![0; n as usize]);
+        let (x, y) = draw::any_number(random, n);
         let sinks = value_of_sinks(&x, &y);
-        let n = x.len();
         let file = file_of(&[(1, &[1]), (2, &sinks)]);
         Read::new(Kind::Sinks, file.clone(), n).check_rooms(session, random);
         read_counts_of_pairs(session, random, &file, n);

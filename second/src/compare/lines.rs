@@ -191,7 +191,7 @@ fn lines_odd(session: &mut Session, random: &mut Random) {
         check(session, &file);
     }
     for n in [0, 12, 13, 512, 513, 4000, 4096] {
-        let line = ((0..n).collect(), vec![0; n as usize]);
-        check(session, &sink_file(&line));
+        let lists = draw::any_number(random, n);
+        check(session, &sink_file(&lists));
     }
 }

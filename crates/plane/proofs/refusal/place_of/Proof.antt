@@ -17,20 +17,17 @@ enum-known-r c = search needs
 enum-known-r-2 : tie.Need-enum-known-r-2
 enum-known-r-2 c = search needs
 
-enum-known-r-3 : tie.Need-enum-known-r-3
-enum-known-r-3 c = search needs
-
 enum-told-4 : tie.Need-enum-told-4
 enum-told-4 c = search needs
 
-enum-known-r-4 : tie.Need-enum-known-r-4
-enum-known-r-4 c = search needs
+enum-known-r-3 : tie.Need-enum-known-r-3
+enum-known-r-3 c = search needs
 
 enum-told-5 : tie.Need-enum-told-5
 enum-told-5 c = search needs
 
-enum-known-r-5 : tie.Need-enum-known-r-5
-enum-known-r-5 c = search needs
+enum-known-r-4 : tie.Need-enum-known-r-4
+enum-known-r-4 c = search needs
 
 returns : tie.Need-returns
 returns c = search needs
@@ -48,19 +45,16 @@ returns-5 : tie.Need-returns-5
 returns-5 c = rw (c .before .r2 .given .1)
 
 returns-6 : tie.Need-returns-6
-returns-6 c = rw (c .before .r3 .given .1)
+returns-6 c = search needs
 
 returns-7 : tie.Need-returns-7
-returns-7 c = search needs
+returns-7 c = rw (c .before .r3 .given .1)
 
 returns-8 : tie.Need-returns-8
-returns-8 c = rw (c .before .r4 .given .1)
+returns-8 c = search needs
 
 returns-9 : tie.Need-returns-9
-returns-9 c = search needs
-
-returns-10 : tie.Need-returns-10
-returns-10 c = rw (c .before .r5 .given .1)
+returns-9 c = rw (c .before .r4 .given .1)
 
 pub place-of-spec : {M : Type 1} → statement M
 place-of-spec =
@@ -71,11 +65,10 @@ place-of-spec =
     enum-told-3
     enum-known-r
     enum-known-r-2
-    enum-known-r-3
     enum-told-4
-    enum-known-r-4
+    enum-known-r-3
     enum-told-5
-    enum-known-r-5
+    enum-known-r-4
     returns
     returns-2
     returns-3
@@ -84,5 +77,4 @@ place-of-spec =
     returns-6
     returns-7
     returns-8
-    returns-9
-    returns-10)
+    returns-9)

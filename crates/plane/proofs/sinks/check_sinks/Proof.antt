@@ -34,34 +34,15 @@ returns-4 c =
       o,
     )
 
-first-repeat-requires : tie.Need-first-repeat-requires
-first-repeat-requires c κs = search needs
-
 returns-5 : tie.Need-returns-5
 unfolding checkSinks
 returns-5 c =
-    let o = c .before .before .before .first-outside .ensures in
-    let r = c .before .first-repeat .ensures in
+    let o = c .before .first-outside .ensures in
     simp (
-      eq-eqb _ _ (c .before .before .before .before .before .before .if1 .left),
-      ne-eqb _ _ (c .before .before .before .before .before .if2 .left),
-      le-ltb _ _ (c .before .before .before .before .if3 .left),
-      le-ltb _ _ (rw o at (c .before .before .if4 .left)),
-      lt-ltb _ _ (rw r at (c .if5 .taken)),
-      r,
-    )
-
-returns-6 : tie.Need-returns-6
-unfolding checkSinks
-returns-6 c =
-    let o = c .before .before .before .first-outside .ensures in
-    let r = c .before .first-repeat .ensures in
-    simp (
-      eq-eqb _ _ (c .before .before .before .before .before .before .if1 .left),
-      ne-eqb _ _ (c .before .before .before .before .before .if2 .left),
-      le-ltb _ _ (c .before .before .before .before .if3 .left),
-      le-ltb _ _ (rw o at (c .before .before .if4 .left)),
-      le-ltb _ _ (rw r at (c .if5 .left)),
+      eq-eqb _ _ (c .before .before .before .before .if1 .left),
+      ne-eqb _ _ (c .before .before .before .if2 .left),
+      le-ltb _ _ (c .before .before .if3 .left),
+      le-ltb _ _ (rw o at (c .if4 .left)),
     )
 
 pub check-sinks-spec : {M : Type 1} → statement M
@@ -73,6 +54,4 @@ check-sinks-spec =
     returns-3
     first-outside-requires
     returns-4
-    first-repeat-requires
-    returns-5
-    returns-6)
+    returns-5)

@@ -1,6 +1,6 @@
 use Rattle.plane.proofs.Numbers.{same-bits}
-use Rattle.plane.proofs.sinks.same.Statement.{statement}
-use Rattle.plane.proofs.sinks.same.Tie as tie
+use Rattle.plane.proofs.measure.same.Statement.{statement}
+use Rattle.plane.proofs.measure.same.Tie as tie
 
 returns : tie.Need-returns
 returns c = same-bits (c .args .a) (c .args .b) (c .fits .a) (c .fits .b)

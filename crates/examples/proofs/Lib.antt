@@ -1,0 +1,2 @@
+-- The table of checked examples is proved.
+pub mod Holds

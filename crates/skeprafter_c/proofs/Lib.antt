@@ -1,0 +1,2 @@
+-- The laws of what the functions for C say.
+pub mod Withdrawn
