@@ -22,7 +22,7 @@ use Rattle.lines.specs.Program.{linesOf, answerText, textOf}
 abbrev SaysFive : List ℕ → Type 0
 SaysFive text = take 9 text ≡ refused ++ (blank ∷ digit 5 ∷ [])
 
--- a byte that is another in "refused 5"
+-- each of its bytes is that of "refused 5"
 byte : (k : ℕ) (text : List ℕ) → SaysFive text → getD (take 9 text) k 0 ≡ getD (refused ++ (blank ∷ digit 5 ∷ [])) k 0
 byte k text e = ap (λ (l : List ℕ). getD l k 0) e
 

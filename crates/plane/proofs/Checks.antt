@@ -1,4 +1,4 @@
--- What an accepted check leaves.
+-- What the check of sinks accepts, and what it leaves.
 use mathlib.Core.Path.{_≡_, refl}
 use mathlib.Core.Bool.{Bool, true, false, not, _&&_}
 use mathlib.Core.List.{List}

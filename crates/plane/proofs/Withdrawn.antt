@@ -1,6 +1,5 @@
 -- Document 02, Q-1: "5 is withdrawn and its number stays unused."
 use mathlib.Core.Path.{_≡_}
-use Prim.Native.Nat.{ℕ}
 use native.Mathlib.Omega.{arith}
 use Rattle.plane.specs.Refusals.{number}
 use Rattle.plane.specs.declared.refusal.Refusal.{Refusal}

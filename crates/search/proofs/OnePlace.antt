@@ -16,7 +16,7 @@ use Rattle.zero_skew.proofs.OnePlace.{gathered-diameter}
 use Rattle.plane.specs.Sinks.{sinksAt, Ranged}
 use Rattle.embedding.specs.Embedding.{total}
 use Rattle.embedding.proofs.OnePlace.{one-place-total}
-use Rattle.search.specs.Best.{best, bestIn, leastOf, stepCount}
+use Rattle.search.specs.Best.{bestIn, leastOf, stepCount}
 use Rattle.search.specs.Entries.{entryAfter}
 use Rattle.search.specs.Searching.{found, joinsFound, tableOf}
 use Rattle.search.specs.Subsets.{diam, sinksIn, splits}
