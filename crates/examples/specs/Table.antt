@@ -1,4 +1,4 @@
--- Document 01, "Table of checked examples": P1 to P12 as one table under one statement. Further rows show the ties of joining by least diameter, pins that share a place, refusals 1 and 6 to 8, case D as a file and as text.
+-- Document 01, "Table of checked examples": P1 to P12 as one table under one statement, `table-holds` (proofs/Holds.antt). Further rows show the ties of joining by least diameter, pins that share a place, refusals 1 and 6 to 8, case D as a file and as text.
 use mathlib.Core.Bool.{true, false}
 use mathlib.Core.List.{List, [], _∷_, _++_}
 use lib.IntN.{pos, negsuc}

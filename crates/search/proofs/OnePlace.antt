@@ -59,9 +59,10 @@ module _ (xs ys : List ℤ) (ranged : Ranged xs ys) (some : 0 < length xs) (few 
       let t : total here (joinsFound here b) ≡ 0 = one-place-total here (joinsFound here b) (found-ordered xs ys b ranged some few) same (λ i. refl) in
       ap (λ (w : ℕ). record { total = w; steps = min b (stepCount (length xs)); proven = leb (stepCount (length xs)) b }) t
 
-  diam-none : (m : ℕ) → diam here m ≡ 0
+  -- no subset has a diameter
+  diam-zero : (m : ℕ) → diam here m ≡ 0
   unfolding diam
-  diam-none m =
+  diam-zero m =
       gathered-diameter here (sinksIn (length xs) m)
       (record {
         same = λ i j mi mj. same i j (sinks-in (length xs) m i mi .0) (sinks-in (length xs) m j mj .0);
@@ -74,7 +75,7 @@ module _ (xs ys : List ℤ) (ranged : Ranged xs ys) (some : 0 < length xs) (few 
     entry-none zero h = ap (λ (t : List ℕ). getD t 0 0) (table-is xs ys ranged some few b) ∙ getD-tab (entryAfter (diam here) b) (2 ^ length xs) 0 0 h
     entry-none (suc m) h =
         holds-best (diam here) (2 ^ length xs) (pow-mono few) (tableOf here b) (finished (diam here) (length xs) b enough) 6000000 (diam-small xs ys ranged) (omega arith) (suc m) (omega arith) h
-        ∙ best-none (diam here) diam-none (suc m) (suc m)
+        ∙ best-none (diam here) diam-zero (suc m) (suc m)
 
     -- from F(n) on
     pub one-place-table : tableOf here b ≡ replicate (2 ^ length xs) 0
