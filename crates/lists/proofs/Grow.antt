@@ -1,6 +1,6 @@
 -- Lists that are made from the front, held in an array or in a buffer.
 use mathlib.Core.Path.{_≡_, refl, sym, ap, _∙_}
-use mathlib.Core.List.{List, [], _∷_, _++_, append-assoc}
+use mathlib.Core.List.{List, [], _∷_, _++_, append-nil, append-assoc}
 use Prim.Native.Nat.{ℕ, zero, suc, _+_, _-_, _≤_, _<_}
 use native.Mathlib.Numerals.{add-one}
 use native.Mathlib.Omega.{arith}
@@ -8,7 +8,7 @@ use mathlib.Core.Bool.{Bool, true, false}
 use borrow.Author.Tests.{ltb-true, ltb-false, eqb-true, eqb-false}
 use lib.Dec.{ltb, eqb}
 use lib.ListN.{length, getD, drop, set, length-append, length-set, List·getD-append}
-use lib.Seq.{drop-cons, set-at, getD-at, getD-set-same, getD-set-other}
+use lib.Seq.{drop-cons, drop-length, set-at, getD-at, getD-set-same, getD-set-other}
 use Rattle.lists.specs.Grow.{grow, front, tab, sumTo, upTo}
 
 module _ {A : Type 0} where
@@ -24,6 +24,12 @@ module _ {A : Type 0} where
   getD-any (x ∷ l) zero d e h = refl
   getD-any (x ∷ l) (suc i) d e h = getD-any l i d e (omega arith)
 
+  -- a buffer that is written from its front, with one entry more
+  pub front-more : (new old : List A) (k : ℕ) (v : A) → length new ≡ k → k < length old → set (new ++ drop k old) k v ≡ (new ++ (v ∷ [])) ++ drop (k + 1) old
+  front-more new old k v e h =
+      let d = drop-cons old k v h in
+      rw (d, add-one, append-assoc) (set-at new (getD old k v) (drop (suc k) old) v k e)
+
   -- a buffer whose first k entries are written
   pub record Filled (f : List A → A) (k : ℕ) (old l : List A) : Type 0 where
     pub is : l ≡ grow f k ++ drop k old
@@ -35,11 +41,8 @@ module _ {A : Type 0} where
 
   pub filled-more : {f : List A → A} {k : ℕ} {old l : List A} (v : A) → Filled f k old l → k < length old → v ≡ f (grow f k) → Filled f (k + 1) old (set l k v)
   filled-more {f} {k} {old} {l} v g h e =
-      let d = drop-cons old k v h in
-      let q : set (grow f k ++ drop k old) k v ≡ grow f k ++ v ∷ drop (suc k) old =
-      rw d (set-at (grow f k) (getD old k v) (drop (suc k) old) v k (length-grow f k)) in
       record {
-        is = rw (g .is, q, add-one, append-assoc, e);
+        is = rw (g .is, front-more (grow f k) old k v (length-grow f k) h, add-one, e);
         size = length-set l k v ∙ g .size;
         room = omega arith;
       }
@@ -49,6 +52,12 @@ module _ {A : Type 0} where
 
   pub filled-last : {f : List A → A} {k : ℕ} {old l : List A} (m r : ℕ) (v : A) → Filled f k old l → k ≡ m → m + 1 ≡ r → m < length old → v ≡ f (grow f m) → set l m v ≡ front (grow f r) old
   filled-last {f} {k} {old} {l} m r v g e q h w = filled-done r (filled-more v (rw e at g) h w) q
+
+  -- the whole buffer
+  pub filled-all : {f : List A → A} {k : ℕ} {old l : List A} → Filled f k old l → length old ≤ k → l ≡ grow f (length old)
+  filled-all {f} {k} {old} {l} g h =
+      let e : k ≡ length old = omega (arith, g .room) in
+      g .is ∙ rw (e, drop-length old) (append-nil (grow f (length old)))
 
   pub tab-at : (g : ℕ → A) (k : ℕ) → g (length (grow (λ l. g (length l)) k)) ≡ g k
   tab-at g k = ap g (length-grow (λ l. g (length l)) k)

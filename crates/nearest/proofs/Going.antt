@@ -9,22 +9,22 @@ use borrow.Author.Tests.{ltb-true, ltb-false}
 use lib.Dec.{ltb}
 use lib.IntN.{ℤ}
 use lib.ListN.{length, getD, take, drop, set, length-set, take-append-drop, List·getD-append}
-use lib.Seq.{take-suc-set, drop-set-lt, drop-drop, getD-at, length-take-le}
+use lib.Seq.{take-suc-set, take-at, drop-set-lt, drop-drop, getD-at, length-take-le}
 use Rattle.lists.specs.Grow.{front, upTo}
-use Rattle.lists.proofs.Grow.{getD-tab}
+use Rattle.lists.proofs.Grow.{getD-tab, length-upTo}
 use Rattle.zero_skew.specs.Plane.{Sinks}
 use Rattle.plane.specs.Boxes.{hullOf}
 use Rattle.plane.specs.Covers.{Covers}
 use Rattle.plane.specs.Sinks.{sinksAt}
 use Rattle.plane.proofs.Covering.{covers-hull, covers-diam}
 use Rattle.nearest.specs.declared.pair.Pair.{Pair}
-use Rattle.nearest.specs.Nearest.{pair, below, union, best, after, chosen, joins, alone, order}
-use Rattle.nearest.specs.Boxes.{boxAt, reach, Puts, Sinked}
-use Rattle.nearest.specs.Live.{left}
+use Rattle.nearest.specs.Nearest.{pair, below, union, best, without, after, chosen, joins, alone, order}
+use Rattle.nearest.specs.Boxes.{boxAt, reach, Boxed, Puts, Sinked}
+use Rattle.nearest.specs.Live.{All, Packed}
 use Rattle.nearest.specs.Rounds.{Open, Made, Round}
-use Rattle.nearest.proofs.Members.{in-all}
-use Rattle.nearest.proofs.Pairs.{Within, best-within, best-same}
-use Rattle.nearest.proofs.Packed.{left-below, left-rising, left-all, left-after, fresh-after}
+use Rattle.nearest.proofs.Members.{all-map, in-all}
+use Rattle.nearest.proofs.Pairs.{Within, best-same}
+use Rattle.nearest.proofs.Packed.{two-left, packed-within}
 use Rattle.nearest.proofs.Running.{Running, more, running-begin, running-turn}
 
 -- ---- the boxes are those of the sinks below each node
@@ -67,48 +67,42 @@ pub held-begin : {xs ys : List ℤ} (n : ℕ) {bs : List ℕ} → Sinked xs ys n
 held-begin n v = record { full = λ k h. rw (alone-at n k h) (omega arith); covers = λ k h. rw (alone-at n k h) (v .covers k h) }
 
 -- ---- after i joins of n sinks
-pub record Going (s : Sinks) (n i : ℕ) (bs : List ℕ) (gone : List Bool) (js₀ js : List ℕ) : Type 0 where
+pub record Going (s : Sinks) (n i : ℕ) (bs live js₀ js : List ℕ) : Type 0 where
   pub sets : List (List ℕ)
-  pub running : Running n i sets (left gone (n + i))
+  pub running : Running n i sets live
   pub held : Held s (n + i) sets bs
-  pub fresh : (k : ℕ) → n + i ≤ k → getD gone k false ≡ false
-  pub is : take (2 * i) js ++ joins s (n - 1 - i) sets (left gone (n + i)) ≡ order s n
+  pub is : take (2 * i) js ++ joins s (n - 1 - i) sets live ≡ order s n
   pub rest : drop (2 * i) js ≡ drop (2 * i) js₀
   pub size : length js ≡ length js₀
 
-pub going-begin : {xs ys : List ℤ} (n : ℕ) {bs : List ℕ} {gone : List Bool} (js : List ℕ) → Sinked xs ys n bs → ((k : ℕ) → getD gone k false ≡ false) → Going (sinksAt xs ys) n 0 bs gone js js
+-- at first, with all sinks at the front of a list
+pub going-begin : {xs ys : List ℤ} (n : ℕ) {bs live : List ℕ} (rest js : List ℕ) → Sinked xs ys n bs → live ≡ upTo n → Going (sinksAt xs ys) n 0 bs (take (n - 0) (live ++ rest)) js js
 unfolding order
-going-begin {xs} {ys} n {bs} {gone} js v z =
+going-begin n {live = live} rest js v b =
     let e : n + 0 ≡ n = omega arith in
-    let a : left gone (n + 0) ≡ upTo n = rw e (left-all gone z n) in
     let k : n - 1 - 0 ≡ n - 1 = omega arith in
-    record {
-      sets = alone n;
-      running = rw a (running-begin n);
-      held = rw e (held-begin n v);
-      fresh = λ i h. z i;
-      is = rw (k, a);
-      rest = refl;
-      size = refl;
-    }
+    let a : take (n - 0) (live ++ rest) ≡ upTo n = rw b (take-at (upTo n) rest (n - 0) (omega (arith, length-upTo n))) in
+    record { sets = alone n; running = rw a (running-begin n); held = rw e (held-begin n v); is = rw (k, a); rest = refl; size = refl }
 
 -- the code chooses the definition's pair
-pub pick-is : {s : Sinks} {n i : ℕ} {bs : List ℕ} {gone : List Bool} {js₀ js : List ℕ} (v : Going s n i bs gone js₀ js) → best (reach bs) (left gone (n + i)) ≡ chosen s (v .sets) (left gone (n + i))
-pick-is {s} {n} {i} {bs} {gone} v = best-same (reach bs) (union s (v .sets)) (n + i) (held-same (v .held)) (v .running .low)
+pub pick-is : {s : Sinks} {n i : ℕ} {bs live js₀ js : List ℕ} (v : Going s n i bs live js₀ js) → best (reach bs) live ≡ chosen s (v .sets) live
+pick-is {s} {n} {i} {bs} v = best-same (reach bs) (union s (v .sets)) (n + i) (held-same (v .held)) (v .running .packed .low)
 
--- its two nodes are live, and lower than the one that they make
-pub pick-within : (d : ℕ → ℕ → ℕ) (gone : List Bool) (m : ℕ) → 2 ≤ length (left gone m) → Within (left gone m) (best d (left gone m))
-pick-within d gone m h = best-within d (left-rising gone m) h
+-- its two nodes are lower than the one that they make
+within-low : {n i : ℕ} {live : List ℕ} {p : Pair} → Packed n i live → Within live p → (p .low < n + i) × (p .high < n + i)
+within-low v w = (in-all (w .low-in) (v .low), in-all (w .high-in) (v .low))
 
-pub pick-low : (d : ℕ → ℕ → ℕ) (gone : List Bool) (m : ℕ) → 2 ≤ length (left gone m) → (best d (left gone m) .low < m) × (best d (left gone m) .high < m)
-pick-low d gone m h =
-    let w = pick-within d gone m h in
-    (in-all (w .low-in) (left-below gone m), in-all (w .high-in) (left-below gone m))
+pub open-boxed : {n i : ℕ} {bs live js : List ℕ} → Open n i bs live js → All (Boxed bs) live × (2 ≤ length live)
+open-boxed o = (all-map (λ a h. omega (arith, o .box-room)) (o .packed .low), omega (arith, o .packed .count, o .turn))
 
-pub open-low : {n i : ℕ} {bs : List ℕ} {gone : List Bool} {js : List ℕ} (p : Pair) → Open n i bs gone js → p ≡ best (reach bs) (left gone (n + i)) → (p .low < n + i) × (p .high < n + i)
-open-low {n} {i} {bs} {gone} p o e = rw e (pick-low (reach bs) gone (n + i) (o .two))
+-- and where they were there is room for it
+pub open-join : {n i : ℕ} {bs live js : List ℕ} (p : Pair) → Open n i bs live js → p ≡ best (reach bs) live → (p .low < n + i) × (p .high < n + i) × (length (without p live) < length live)
+open-join {bs = bs} p o e =
+    let w = packed-within (reach bs) (o .packed) (o .turn) in
+    let (low, high) = within-low (o .packed) w in
+    rw e (low, high, omega (arith, two-left (best (reach bs) _) (o .packed .rising) w))
 
-pub round-of : {n i : ℕ} {bs bs′ : List ℕ} {gone gone′ : List Bool} {js js′ : List ℕ} (p : Pair) → p ≡ best (reach bs) (left gone (n + i)) → Made (n + i) p bs bs′ gone gone′ → js′ ≡ set (set js (2 * i) (p .low)) (2 * i + 1) (p .high) → Round n i bs bs′ gone gone′ js js′
+pub round-of : {n i : ℕ} {bs bs′ live live′ js js′ : List ℕ} (p : Pair) → p ≡ best (reach bs) live → Made (n + i) p bs bs′ live live′ → js′ ≡ set (set js (2 * i) (p .low)) (2 * i + 1) (p .high) → Round n i bs bs′ live live′ js js′
 round-of p e m w = record { made = rw e at m; writes = rw e at w }
 
 two-more : (l : List ℕ) (k a b : ℕ) → k + 1 < length l → take (k + 2) (set (set l k a) (k + 1) b) ≡ take k l ++ (a ∷ b ∷ [])
@@ -116,24 +110,27 @@ two-more l k a b h =
     let e : k + 2 ≡ suc (k + 1) = omega arith in
     rw (e, take-suc-set (set l k a) (k + 1) b (rw length-set h), add-one, take-suc-set l k a (omega arith), append-assoc)
 
-module _ {s : Sinks} {n i : ℕ} {bs bs′ : List ℕ} {gone gone′ : List Bool} {js₀ js js′ : List ℕ} where
-  pub going-turn : Going s n i bs gone js₀ js → i + 1 < n → n + i < length gone → 2 * i + 1 < length js → Round n i bs bs′ gone gone′ js js′ → Going s n (i + 1) bs′ gone′ js₀ js′
+-- the live nodes after a join stand where those before it stood, at the front of a list
+next-live : (p : Pair) (m k : ℕ) (live : List ℕ) {live′ : List ℕ} (rest : List ℕ) → live′ ≡ front (after p m live) live → length (after p m live) ≡ k → take k (live′ ++ rest) ≡ after p m live
+next-live p m k live rest e h = rw (e, append-assoc) (take-at (after p m live) (drop (length (after p m live)) live ++ rest) k h)
+
+module _ {s : Sinks} {n i : ℕ} {bs bs′ live live′ js₀ js js′ : List ℕ} where
+  pub going-turn : (rest : List ℕ) → Going s n i bs live js₀ js → i + 1 < n → 2 * i + 1 < length js → Round n i bs bs′ live live′ js js′ → Going s n (i + 1) bs′ (take (n - (i + 1)) (live′ ++ rest)) js₀ js′
   unfolding joins
-  going-turn v h l b d =
-      let live = left gone (n + i) in
+  going-turn rest v h b d =
       let p = best (reach bs) live in
       let q = chosen s (v .sets) live in
-      let many : 2 ≤ length live = omega (arith, v .running .count) in
-      let low = pick-low (reach bs) gone (n + i) many in
+      let w = packed-within (reach bs) (v .running .packed) h in
+      let (low, high) = within-low (v .running .packed) w in
       let up : n + (i + 1) ≡ n + i + 1 = omega arith in
       let two : 2 * (i + 1) ≡ 2 * i + 2 = omega arith in
       let less : n - 1 - i ≡ suc (n - 1 - (i + 1)) = omega arith in
-      let next : left gone′ (n + (i + 1)) ≡ after p (n + i) live = rw (up, d .made .marks) (left-after gone p (n + i) (low .0) (low .1) l (v .fresh (n + i) (omega arith))) in
+      let run = running-turn p (v .running) w in
+      let next = next-live p (n + i) (n - (i + 1)) live rest (d .made .packs) (run .packed .count) in
       record {
         sets = more (v .sets) p;
-        running = rw next (running-turn p (v .running) h (pick-within (reach bs) gone (n + i) many));
-        held = rw up (held-turn p (v .held) (v .running .size) (low .0) (low .1) (d .made .puts));
-        fresh = rw (up, d .made .marks) (fresh-after gone p (n + i) (low .0) (low .1) l (v .fresh));
+        running = rw next run;
+        held = rw up (held-turn p (v .held) (v .running .size) low high (d .made .puts));
         is =
             rw (d .writes, two, two-more js (2 * i) (p .low) (p .high) b, append-assoc, next, pick-is v)
             (let step : joins s (n - 1 - i) (v .sets) live ≡ q .low ∷ q .high ∷ joins s (n - 1 - (i + 1)) (more (v .sets) q) (after q (n + i) live) = rw (less, v .running .size) in
@@ -148,20 +145,12 @@ module _ {s : Sinks} {n i : ℕ} {bs bs′ : List ℕ} {gone gone′ : List Bool
         size = rw (d .writes) (simp length-set (v .size));
       }
 
-pub going-open : {s : Sinks} {n i : ℕ} {bs : List ℕ} {gone : List Bool} {js₀ js : List ℕ} → Going s n i bs gone js₀ js → i + 1 < n → n ≤ 512 → 4092 ≤ length bs → 1023 ≤ length gone → 2 * (n - 1) ≤ length js₀ → Open n i bs gone js
-going-open v h f b g r =
-    record {
-      two = omega (arith, v .running .count);
-      few = omega (arith, v .running .count);
-      small = omega arith;
-      box-room = omega arith;
-      flag-room = omega arith;
-      room = omega (arith, v .size);
-    }
+pub going-open : {s : Sinks} {n i : ℕ} {bs live js₀ js : List ℕ} → Going s n i bs live js₀ js → i + 1 < n → n ≤ 512 → 4092 ≤ length bs → 2 * (n - 1) ≤ length js₀ → Open n i bs live js
+going-open v h f b r = record { packed = v .running .packed; turn = h; few = f; box-room = omega arith; room = omega (arith, v .size) }
 
-pub going-end : {s : Sinks} {n i : ℕ} {bs : List ℕ} {gone : List Bool} {js₀ js : List ℕ} → Going s n i bs gone js₀ js → i ≡ n - 1 → 2 * (n - 1) ≤ length js₀ → js ≡ front (order s n) js₀
+pub going-end : {s : Sinks} {n i : ℕ} {bs live js₀ js : List ℕ} → Going s n i bs live js₀ js → i ≡ n - 1 → 2 * (n - 1) ≤ length js₀ → js ≡ front (order s n) js₀
 unfolding joins
-going-end {s} {n} {i} {bs} {gone} {js₀} {js} v e r =
+going-end {s} {n} {i} {js₀ = js₀} {js} v e r =
     let z : n - 1 - i ≡ 0 = omega arith in
     let o : take (2 * i) js ≡ order s n = sym (append-nil (take (2 * i) js)) ∙ (rw z at (v .is)) in
     let k : length (order s n) ≡ 2 * i = sym (ap length o) ∙ length-take-le (2 * i) js (omega (arith, v .size)) in

@@ -3,6 +3,7 @@ pub mod Members
 pub mod Pairs
 pub mod Boxing
 pub mod Packed
+pub mod Leaving
 pub mod Running
 pub mod Going
 pub mod Passing

@@ -4,24 +4,15 @@ use mathlib.Core.Bool.{Bool, true, false, cond}
 use mathlib.Core.List.{List, [], _∷_, _++_}
 use Prim.Native.Nat.{ℕ, zero, suc, _<_}
 use native.Mathlib.Omega.{arith}
+use borrow.Author.Tests.{ne-eqb}
 use lib.ListN.{length, getD, drop}
 use Rattle.nearest.specs.declared.pair.Pair.{Pair}
 use Rattle.nearest.specs.Nearest.{isOf, without}
 use Rattle.nearest.specs.Rule.{In}
 use Rattle.nearest.specs.Rule.In.{hit, next}
-use Rattle.nearest.specs.Live.{All}
+use Rattle.nearest.specs.Live.{All, Each, Below, Rising}
 use Rattle.nearest.specs.Live.All.{none, also}
-
--- Q of each entry and those after it
-pub data Each (Q : ℕ → List ℕ → Type 0) : List ℕ → Type 0 where
-  nil : Each Q []
-  cons : {a : ℕ} {ls : List ℕ} → Q a ls → Each Q ls → Each Q (a ∷ ls)
-
-abbrev pub Below : ℕ → List ℕ → Type 0
-Below m ls = All (λ a. a < m) ls
-
-abbrev pub Rising : List ℕ → Type 0
-Rising ls = Each (λ a bs. All (λ b. a < b) bs) ls
+use Rattle.nearest.specs.Live.Each.{nil, cons}
 
 module _ {A : Type 0} where
   pub all-map : {P Q : A → Type 0} {ls : List A} → ((a : A) → P a → Q a) → All P ls → All Q ls
@@ -68,6 +59,9 @@ skip hit h = absurd (h refl)
 skip (next i) h = i
 
 -- ---- the two of a pair are left out
+pub not-of : (p : Pair) (a : ℕ) → (a ≡ p .low → ⊥) → (a ≡ p .high → ⊥) → isOf p a ≡ false
+not-of p a h g = rw (ne-eqb a (p .low) h, ne-eqb a (p .high) g)
+
 pub all-kept : {P : ℕ → Type 0} {ls : List ℕ} (p : Pair) → All P ls → All (λ y. P y × (isOf p y ≡ false)) (without p ls)
 all-kept p none = none
 all-kept {P} p (also {a} {ls} x h) = go (isOf p a) refl (all-kept p h)

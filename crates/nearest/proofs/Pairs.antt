@@ -13,10 +13,10 @@ use Rattle.nearest.specs.declared.pair.Pair.{Pair}
 use Rattle.nearest.specs.Nearest.{pair, row, pairs, lesser, leastFrom, firstLeast, best}
 use Rattle.nearest.specs.Rule.{In}
 use Rattle.nearest.specs.Rule.In.{hit, next}
-use Rattle.nearest.specs.Live.{All}
+use Rattle.nearest.specs.Live.{All, Below, Rising}
 use Rattle.nearest.specs.Live.All.{none, also}
-use Rattle.nearest.proofs.Members.{Below, Rising, all-map, all-zip, all-join, all-in}
-use Rattle.nearest.proofs.Members.Each.{nil, cons}
+use Rattle.nearest.proofs.Members.{all-map, all-zip, all-join, all-in}
+use Rattle.nearest.specs.Live.Each.{nil, cons}
 
 -- the part of a list from a on
 pub tail-is : {A : Type 0} (l : List A) (a : ℕ) → take (length l - a) (drop a l) ≡ drop a l

@@ -12,10 +12,10 @@ use Rattle.nearest.specs.declared.pair.Pair.{Pair}
 use Rattle.nearest.specs.Nearest.{pair, row, pairs, lesser, leastFrom, best, union, chosen}
 use Rattle.nearest.specs.Rule.{In, Leads, Chosen}
 use Rattle.nearest.specs.Rule.In.{hit, next}
-use Rattle.nearest.specs.Live.{All}
+use Rattle.nearest.specs.Live.{All, Rising}
 use Rattle.nearest.specs.Live.All.{none, also}
-use Rattle.nearest.proofs.Members.{Rising, all-map, all-join, all-left, all-right, in-all, all-in, skip}
-use Rattle.nearest.proofs.Members.Each.{nil, cons}
+use Rattle.nearest.proofs.Members.{all-map, all-join, all-left, all-right, in-all, all-in, skip}
+use Rattle.nearest.specs.Live.Each.{nil, cons}
 use Rattle.nearest.proofs.Pairs.{weight, row-all, pairs-within, best-within}
 use Rattle.nearest.proofs.Running.{Running}
 
@@ -138,4 +138,4 @@ only-chosen d {live} {p} {q} c e =
 
 -- so it holds of each join
 pub running-chosen : (s : Sinks) {n i : ℕ} {sets : List (List ℕ)} {live : List ℕ} → Running n i sets live → i + 1 < n → Chosen (union s sets) live (chosen s sets live)
-running-chosen s {n} {i} {sets} r h = best-chosen (union s sets) (r .rising) (omega (arith, r .count))
+running-chosen s {n} {i} {sets} r h = best-chosen (union s sets) (r .packed .rising) (omega (arith, r .packed .count))

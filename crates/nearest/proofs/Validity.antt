@@ -15,10 +15,10 @@ use Rattle.embedding.proofs.Accepted.{joins-accepted}
 use Rattle.nearest.specs.declared.pair.Pair.{Pair}
 use Rattle.nearest.specs.Nearest.{isOf, after, chosen, joins, order}
 use Rattle.nearest.specs.Rule.{In}
-use Rattle.nearest.specs.Live.{All}
+use Rattle.nearest.specs.Live.{All, Each}
 use Rattle.nearest.specs.Live.All.{none, also}
-use Rattle.nearest.proofs.Members.{Each, all-map, all-join, all-at, all-kept, in-all, all-in, each-at}
-use Rattle.nearest.proofs.Members.Each.{nil, cons}
+use Rattle.nearest.proofs.Members.{all-map, all-join, all-at, all-kept, in-all, all-in, each-at}
+use Rattle.nearest.specs.Live.Each.{nil, cons}
 use Rattle.nearest.proofs.Running.{Running, more, running-begin, running-turn, running-within}
 
 -- pairs, the lower number first, each below the node that it makes, from node m on
@@ -93,10 +93,10 @@ good s zero r e = record { size = refl; pairs = end; apart = nil; named = none }
 good s (suc k) {n} {i} {sets} {live} r e =
     let p = chosen s sets live in
     let w = running-within s r (omega arith) in
-    let h = in-all (w .low-in) (r .low) in
-    let g = in-all (w .high-in) (r .low) in
+    let h = in-all (w .low-in) (r .packed .low) in
+    let g = in-all (w .high-in) (r .packed .low) in
     let z : n + (i + 1) ≡ suc (n + i) = omega arith in
-    let t = rw z at (good s k {n = n} {i = i + 1} (running-turn p r (omega arith) w) (omega arith)) in
+    let t = rw z at (good s k {n = n} {i = i + 1} (running-turn p r w) (omega arith)) in
     let o : All (Other live (n + i) p) (joins s k (more sets p) (after p (n + i) live)) = all-map (λ x f. other p h g f) (t .named) in
     let u : p .low ≡ p .high → ⊥ = λ q. omega (arith, w .up) in
     rw (r .size)

@@ -1,20 +1,27 @@
--- For the code alone: the live nodes, from flags that mark the joined ones.
-use mathlib.Core.Bool.{Bool, true, false, cond}
-use mathlib.Core.List.{List, [], _∷_, _++_}
-use Prim.Native.Nat.{ℕ, zero, suc}
-use lib.ListN.{set, getD}
-use Rattle.nearest.specs.declared.pair.Pair.{Pair}
+-- For the code alone: the live nodes, packed in rising order.
+use mathlib.Core.Path.{_≡_}
+use mathlib.Core.List.{List, [], _∷_}
+use Prim.Native.Nat.{ℕ, _+_, _-_, _<_}
+use lib.ListN.{length}
 
 -- P of each entry
 pub data All {A : Type 0} (P : A → Type 0) : List A → Type 0 where
   none : All P []
   also : {a : A} {ls : List A} → P a → All P ls → All P (a ∷ ls)
 
--- the nodes below m that are not gone, in rising order
-abbrev pub left : List Bool → ℕ → List ℕ
-left gone zero = []
-left gone (suc k) = left gone k ++ cond (getD gone k false) [] (k ∷ [])
+-- Q of each entry and those after it
+pub data Each (Q : ℕ → List ℕ → Type 0) : List ℕ → Type 0 where
+  nil : Each Q []
+  cons : {a : ℕ} {ls : List ℕ} → Q a ls → Each Q ls → Each Q (a ∷ ls)
 
--- the two of a pair are gone too
-abbrev pub gone2 : List Bool → Pair → List Bool
-gone2 gone p = set (set gone (p .low) true) (p .high) true
+abbrev pub Below : ℕ → List ℕ → Type 0
+Below m ls = All (λ a. a < m) ls
+
+abbrev pub Rising : List ℕ → Type 0
+Rising ls = Each (λ a bs. All (λ b. a < b) bs) ls
+
+-- the live nodes after i joins of n sinks: each join took two away and made one
+pub record Packed (n i : ℕ) (live : List ℕ) : Type 0 where
+  pub low : Below (n + i) live
+  pub rising : Rising live
+  pub count : length live ≡ n - i

@@ -1,10 +1,10 @@
 // The pair to join: of the live nodes the first whose union has the least diameter.
 ghost use mathlib.Core.Path.{_≡_};
-ghost use Prim.Native.Nat.{_+_, _*_, _≤_};
-ghost use lib.ListN.{length, take};
+ghost use Prim.Native.Nat.{_≤_};
+ghost use lib.ListN.{length};
 ghost use Rattle.nearest.specs.Nearest.{row, leastFrom, best};
 ghost use Rattle.nearest.specs.Boxes.{reach, Boxed};
-ghost use Rattle.nearest.specs.Live.{All, left};
+ghost use Rattle.nearest.specs.Live.{All};
 use crate::pair::Pair;
 use crate::table;
 
@@ -43,31 +43,4 @@ pub fn nearest(live: &[usize], bs: &[u32]) -> Pair
         i += 1;
     }
     p
-}
-
-// The nodes below m that are not gone, in rising order, and how many they are.
-fn list_live(gone: &[bool], m: usize, live: &mut [usize]) -> usize
-    requires { ⌜ (m ≤ length (now gone)) × (length (left (now gone) m) ≤ length (now live)) ⌝ }
-    ensures { λ r. ⌜ (r ≡ length (left (now (gone .entry)) m)) × (take r (now (live .exit)) ≡ left (now (gone .entry)) m) ⌝ }
-{
-    let mut w = 0;
-    let mut k = 0;
-    while k < m {
-        if !gone[k] {
-            live[w] = k;
-            w += 1;
-        }
-        k += 1;
-    }
-    w
-}
-
-// The best pair of the nodes below m that are not gone.
-pub fn pick(gone: &[bool], bs: &[u32], m: usize) -> Pair
-    requires { ⌜ (4 * m ≤ length (now bs)) × (m ≤ length (now gone)) × (2 ≤ length (left (now gone) m)) × (length (left (now gone) m) ≤ 512) ⌝ }
-    ensures { λ r. ⌜ r ≡ best (reach (now (bs .entry))) (left (now (gone .entry)) m) ⌝ }
-{
-    let mut live = [0usize; 512];
-    let k = list_live(gone, m, &mut live);
-    nearest(&live[0..k], bs)
 }

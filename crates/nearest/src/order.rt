@@ -3,11 +3,13 @@ ghost use mathlib.Core.Path.{_≡_};
 ghost use Prim.Native.Nat.{_+_, _-_, _*_, _<_};
 ghost use lib.ListN.{length, set};
 ghost use Rattle.lists.specs.Grow.{front};
+ghost use Rattle.nearest.specs.Nearest.{without};
 ghost use Rattle.nearest.specs.Boxes.{Boxed};
 ghost use Rattle.nearest.specs.Rounds.{Open, Made, Round};
 ghost use Rattle.nearest.specs.Calls.{orderAt, checkNearest, Joining};
 ghost use Rattle.nearest.specs.Ready.{CanJoin};
 use crate::best;
+use crate::live;
 use crate::pair::Pair;
 use crate::table;
 use plane::refusal::Checked;
@@ -37,26 +39,23 @@ fn write_pair(js: &mut [u16], i: usize, p: Pair)
     js[at + 1] = narrow(p.high);
 }
 
-// The two of a pair are joined to node m.
-fn join(bs: &mut [u32], gone: &mut [bool], m: usize, p: Pair)
-    requires { ⌜ Boxed (now bs) m × (m < length (now gone)) × (p .low < m) × (p .high < m) ⌝ }
-    ensures { λ _. ⌜ Made m p (now (bs .entry)) (now (bs .exit)) (now (gone .entry)) (now (gone .exit)) ⌝ }
+// The two of a pair are joined to node m, which is live in their place, after all others.
+fn join(bs: &mut [u32], live: &mut [usize], m: usize, p: Pair)
+    requires { ⌜ Boxed (now bs) m × (p .low < m) × (p .high < m) × (length (without p (now live)) < length (now live)) ⌝ }
+    ensures { λ _. ⌜ Made m p (now (bs .entry)) (now (bs .exit)) (now (live .entry)) (now (live .exit)) ⌝ }
 {
     table::put_hull(bs, m, p);
-    let low = p.low;
-    let high = p.high;
-    gone[low] = true;
-    gone[high] = true;
+    let w = live::leave(live, p);
+    live[w] = m;
 }
 
 // Join i of n sinks: the best pair is joined and written.
-fn round(bs: &mut [u32], gone: &mut [bool], n: usize, i: usize, js: &mut [u16])
-    requires { ⌜ Open n i (now bs) (now gone) (now js) ⌝ }
-    ensures { λ _. ⌜ Round n i (now (bs .entry)) (now (bs .exit)) (now (gone .entry)) (now (gone .exit)) (now (js .entry)) (now (js .exit)) ⌝ }
+fn round(bs: &mut [u32], live: &mut [usize], n: usize, i: usize, js: &mut [u16])
+    requires { ⌜ Open n i (now bs) (now live) (now js) ⌝ }
+    ensures { λ _. ⌜ Round n i (now (bs .entry)) (now (bs .exit)) (now (live .entry)) (now (live .exit)) (now (js .entry)) (now (js .exit)) ⌝ }
 {
-    let m = n + i;
-    let p = best::pick(gone, bs, m);
-    join(bs, gone, m, p);
+    let p = best::nearest(live, bs);
+    join(bs, live, n + i, p);
     write_pair(js, i, p);
 }
 
@@ -67,11 +66,12 @@ pub fn order_sound(xs: &[i32], ys: &[i32], js: &mut [u16])
 {
     let n = xs.len();
     let mut bs = [0u32; 4092];
-    let mut gone = [false; 1023];
+    let mut live = [0usize; 512];
     table::put_sinks(xs, ys, &mut bs);
+    live::begin(&mut live[..n]);
     let mut i = 0;
     while i + 1 < n {
-        round(&mut bs, &mut gone, n, i, js);
+        round(&mut bs, &mut live[..n - i], n, i, js);
         i += 1;
     }
 }

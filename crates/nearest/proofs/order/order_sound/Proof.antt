@@ -1,20 +1,21 @@
-use mathlib.Core.Path.{_≡_, refl, sym}
+use Prim.Native.Nat.{ℕ, _+_, _-_, _≤_}
+use mathlib.Core.List.{List}
+use mathlib.Core.Path.{_≡_, refl, sym, _∙_}
 use native.Mathlib.Omega.{arith}
 use denote.Ref.{now}
-use Rattle.nearest.proofs.Packed.{none-gone}
-use Rattle.nearest.proofs.Going.{going-begin, going-turn, going-open, going-end}
-use Prim.Native.Nat.{_+_, _-_, _≤_}
+use borrow.Author.Needs.{needs}
+use lib.ListN.{length, take, replicate}
+use lib.Seq.{length-take-le, length-front}
 use Rattle.plane.specs.Sinks.{sinksAt}
-use Rattle.nearest.proofs.Going.{Going}
-use lib.ListN.{length}
+use Rattle.nearest.proofs.Going.{Going, going-begin, going-turn, going-open, going-end}
 use Rattle.nearest.proofs.order.order_sound.Statement.{statement}
 use Rattle.nearest.proofs.order.order_sound.Tie as tie
 
 abbrev Inv-loop : tie.InvT-loop
-Inv-loop xs ys js₀ n bs₀ gone₀ i₀ js bs gone i = (i + 1 ≤ n) × (length bs ≡ 4092) × (length gone ≡ 1023) × Going (sinksAt xs ys) n i bs gone js₀ js
+Inv-loop xs ys js₀ n bs₀ live₀ i₀ js bs live i = (i + 1 ≤ n) × (length bs ≡ 4092) × (length live ≡ 512) × Going (sinksAt xs ys) n i bs (take (n - i) live) js₀ js
 
 abbrev μ-loop : tie.MeasureT-loop
-μ-loop xs ys js₀ n bs₀ gone₀ i₀ js bs gone i = n - i
+μ-loop xs ys js₀ n bs₀ live₀ i₀ js bs live i = n - i
 
 slice-aggregate-put-sinks : tie.Need-slice-aggregate-put-sinks Inv-loop μ-loop
 slice-aggregate-put-sinks c = refl
@@ -22,10 +23,26 @@ slice-aggregate-put-sinks c = refl
 put-sinks-requires : tie.Need-put-sinks-requires Inv-loop μ-loop
 put-sinks-requires c κs = let o = c .before .before .pre in (o .ranged, omega (arith, o .few))
 
+array-borrow-prefix-live : tie.Need-array-borrow-prefix-live Inv-loop μ-loop
+array-borrow-prefix-live c = c .before .before .before .before .pre .few
+
+slice-aggregate-begin : tie.Need-slice-aggregate-begin Inv-loop μ-loop
+slice-aggregate-begin c = let s = c .before .before .before .before .before in sym (length-take-le (length (now (s .args .xs))) (replicate 512 0) (s .pre .few))
+
+begin-requires : tie.Need-begin-requires Inv-loop μ-loop
+begin-requires c κs = search needs
+
 loop-holds : tie.Need-loop-holds Inv-loop μ-loop
 loop-holds c =
-    let s = c .before .before .before .before in
-    (omega (arith, s .pre .some), c .bs2 .given, refl, going-begin (length (now (s .args .xs))) (now (s .args .js)) (c .before .put-sinks .ensures) (none-gone 1023))
+    let s = c .before .before .before .before .before .before .before in
+    let n = length (now (s .args .xs)) in
+    let zeros : List ℕ = replicate 512 0 in
+    let e : length (take n zeros) ≡ n = length-take-le n zeros (s .pre .few) in (
+      omega (arith, s .pre .some),
+      c .before .before .before .bs2 .given,
+      length-front zeros (c .before .begin .last .0) n (c .live2 .given),
+      going-begin n _ (now (s .args .js)) (c .before .before .before .before .put-sinks .ensures) (rw e at (c .before .begin .ensures)),
+    )
 
 add-loop : tie.Need-add-loop Inv-loop μ-loop
 add-loop c = omega (arith, c .loop .inv .0)
@@ -33,33 +50,48 @@ add-loop c = omega (arith, c .loop .inv .0)
 slice-aggregate-round : tie.Need-slice-aggregate-round Inv-loop μ-loop
 slice-aggregate-round c = sym (c .before .before .loop .inv .1)
 
+sub-live : tie.Need-sub-live Inv-loop μ-loop
+sub-live c = omega (arith, c .before .before .loop .inv .0)
+
+array-borrow-prefix-live-2 : tie.Need-array-borrow-prefix-live-2 Inv-loop μ-loop
+array-borrow-prefix-live-2 c = omega (arith, c .before .before .before .before .before .before .before .before .before .before .pre .few, c .before .before .loop .inv .2)
+
 slice-aggregate-round-2 : tie.Need-slice-aggregate-round-2 Inv-loop μ-loop
-slice-aggregate-round-2 c = sym (c .before .before .before .loop .inv .2)
+slice-aggregate-round-2 c =
+    let s = c .before .before .before .before .before .before .before .before .before .before .before in
+    let l = c .before .before .before .loop in
+    sym (length-take-le (length (now (s .args .xs)) - l .i) (l .live) (omega (arith, s .pre .few, l .inv .2)))
 
 round-requires : tie.Need-round-requires Inv-loop μ-loop
 round-requires c κs =
-    let o = c .before .before .before .before .before .before .before .before .before .pre in
+    let o = c .before .before .before .before .before .before .before .before .before .before .before .before .pre in
     let v = c .before .before .before .before .loop .inv in
-    going-open (v .3) (c .before .before .before .loop-test .taken) (o .few) (omega (arith, v .1)) (omega (arith, v .2)) (o .room)
+    going-open (v .3) (c .before .before .before .loop-test .taken) (o .few) (omega (arith, v .1)) (o .room)
 
 add-i : tie.Need-add-i Inv-loop μ-loop
-add-i c = omega (arith, c .before .before .before .before .before .before .before .before .before .before .before .before .before .before .pre .few, c .before .before .before .before .before .before .before .before .loop-test .taken)
+add-i c = omega (arith, c .before .before .before .before .before .before .before .before .before .before .before .before .before .before .before .before .before .pre .few, c .before .before .before .before .before .before .before .before .loop-test .taken)
 
 loop-less : tie.Need-loop-less Inv-loop μ-loop
 loop-less c = omega (arith, c .before .before .before .before .before .before .before .before .loop-test .taken)
 
 loop-again : tie.Need-loop-again Inv-loop μ-loop
 loop-again c =
-    let o = c .before .before .before .before .before .before .before .before .before .before .before .before .before .before .pre in
-    let v = c .before .before .before .before .before .before .before .before .before .loop .inv in
+    let s = c .before .before .before .before .before .before .before .before .before .before .before .before .before .before .before .before .before in
+    let l = c .before .before .before .before .before .before .before .before .before .loop in
     let h = c .before .before .before .before .before .before .before .before .loop-test .taken in
-    (omega (arith, h), c .before .before .before .bs4 .given, c .before .before .gone2 .given, going-turn (v .3) h (omega (arith, v .2, o .few)) (omega (arith, v .3 .size, o .room)) (c .before .before .before .before .round .ensures))
+    let r = c .before .before .before .before .round in
+    let k = length (now (s .args .xs)) - l .i in (
+      omega (arith, h),
+      c .before .before .before .bs4 .given,
+      length-front (l .live) (r .last .1 .0) k (c .before .before .live4 .given) ∙ l .inv .2,
+      going-turn _ (l .inv .3) h (omega (arith, l .inv .3 .size, s .pre .room)) (r .ensures),
+    )
 
 same-length : tie.Need-same-length Inv-loop μ-loop
 same-length c = c .before .loop .inv .3 .size
 
 returns : tie.Need-returns Inv-loop μ-loop
-returns c = going-end (c .before .loop .inv .3) (omega (arith, c .before .loop .inv .0, c .loop-test .left)) (c .before .before .before .before .before .before .pre .room)
+returns c = going-end (c .before .loop .inv .3) (omega (arith, c .before .loop .inv .0, c .loop-test .left)) (c .before .before .before .before .before .before .before .before .before .pre .room)
 
 pub order-sound-spec : {M : Type 1} → statement M
 order-sound-spec =
@@ -69,9 +101,14 @@ order-sound-spec =
     μ-loop
     slice-aggregate-put-sinks
     put-sinks-requires
+    array-borrow-prefix-live
+    slice-aggregate-begin
+    begin-requires
     loop-holds
     add-loop
     slice-aggregate-round
+    sub-live
+    array-borrow-prefix-live-2
     slice-aggregate-round-2
     round-requires
     add-i
