@@ -56,6 +56,8 @@ pub enum SinkKind {
     Collinear,
     /// At least one coordinate at ±1,000,000, corners often.
     Extreme,
+    /// One on each place of a regular grid: most diameters tie.
+    Regular,
     /// All on one place.
     OnePlace,
     /// On up to four places.
@@ -70,11 +72,12 @@ pub enum SinkKind {
 
 impl SinkKind {
     /// The kinds that are accepted, first those of distinct places.
-    pub const GOOD: [SinkKind; 8] = [
+    pub const GOOD: [SinkKind; 9] = [
         SinkKind::Uniform,
         SinkKind::Clustered,
         SinkKind::Collinear,
         SinkKind::Extreme,
+        SinkKind::Regular,
         SinkKind::OnePlace,
         SinkKind::FewPlaces,
         SinkKind::Coinciding,
@@ -96,6 +99,7 @@ pub fn sinks(random: &mut Random, kind: SinkKind, n: usize) -> (Vec<i32>, Vec<i3
         SinkKind::Clustered => clustered(random, n),
         SinkKind::Collinear => collinear(random, n),
         SinkKind::Extreme => distinct(random, n, extreme_sink),
+        SinkKind::Regular => regular(random, n),
         SinkKind::OnePlace => on_places(random, n, 1),
         SinkKind::FewPlaces => {
             let places = 2 + random.below(3);
@@ -170,6 +174,28 @@ fn collinear(random: &mut Random, n: usize) -> (Vec<i32>, Vec<i32>) {
         let along = random.between(-reach, reach);
         (x + dx * along, y + dy * along)
     })
+}
+
+/// Numbered row by row, or in any order, so that equal diameters come from
+/// low and high numbers alike.
+fn regular(random: &mut Random, n: usize) -> (Vec<i32>, Vec<i32>) {
+    let side = (1..).find(|side| side * side >= n).unwrap_or(n);
+    let columns = side * random.pick(&[1, 2]);
+    let across = random.pick(&[1, 2, 10_000]);
+    let up = across * random.pick(&[1, 3]);
+    let left = random.between(-REACH, REACH - across * columns as i32);
+    let low = random.between(-REACH, REACH - up * side as i32);
+    let mut cells: Vec<usize> = (0..n).collect();
+    if random.below(2) == 0 {
+        for at in 1..n {
+            cells.swap(at, random.below(at + 1));
+        }
+    }
+    let place = |cell: usize| {
+        let (row, column) = ((cell / columns) as i32, (cell % columns) as i32);
+        (left + across * column, low + up * row)
+    };
+    cells.into_iter().map(place).unzip()
 }
 
 /// Pins on so many places at most, each on any of them.

@@ -155,7 +155,12 @@ mod tests {
                 assert_eq!(least_joins(&x, &y), naive_joins(&x, &y));
             }
         }
-        for kind in [SinkKind::Clustered, SinkKind::FewPlaces, SinkKind::Coarse] {
+        for kind in [
+            SinkKind::Clustered,
+            SinkKind::Regular,
+            SinkKind::FewPlaces,
+            SinkKind::Coarse,
+        ] {
             let (x, y) = sinks(&mut random, kind, 150);
             assert_eq!(least_joins(&x, &y), naive_joins(&x, &y));
         }

@@ -1,7 +1,7 @@
 -- The live nodes packed: two leave, one comes last, and the order rises still.
 use mathlib.Core.Path.{_≡_, refl, ap}
 use mathlib.Core.Bool.{true}
-use mathlib.Core.List.{List, []}
+use mathlib.Core.List.{List}
 use Prim.Native.Nat.{ℕ, zero, suc, _+_, _-_, _<_}
 use native.Mathlib.Omega.{arith}
 use borrow.Author.Tests.{ne-eqb, eq-eqb}
@@ -54,15 +54,15 @@ up-rising zero = nil
 up-rising (suc n) = rw (length-upTo n) (rising-more n (up-rising n) (up-below n))
 
 pub packed-begin : (n : ℕ) → Packed n 0 (upTo n)
-packed-begin n = let e : n + 0 ≡ n = omega arith in record { low = rw e (up-below n); rising = up-rising n; count = rw length-upTo (omega arith) }
+packed-begin n = let e : n + 0 ≡ n = omega arith in record { rising = up-rising n; low = rw e (up-below n); count = rw length-upTo (omega arith) }
 
 -- ---- a join: drop two, append one, and the order is kept
 pub packed-turn : {n i : ℕ} {live : List ℕ} (p : Pair) → Packed n i live → Within live p → Packed n (i + 1) (after p (n + i) live)
 packed-turn {n} {i} {live} p v w =
     let e : n + (i + 1) ≡ n + i + 1 = omega arith in
     record {
-      low = rw e (all-join (all-map (λ a l. omega arith) (all-without p (v .low))) (also (omega arith) none));
       rising = rising-more (n + i) (rising-without p (v .rising)) (all-without p (v .low));
+      low = rw e (all-join (all-map (λ a l. omega arith) (all-without p (v .low))) (also (omega arith) none));
       count = rw length-append (omega (arith, v .count, two-left p (v .rising) w));
     }
 

@@ -22,6 +22,6 @@ Rising ls = Each (λ a bs. All (λ b. a < b) bs) ls
 
 -- the live nodes after i joins of n sinks: each join took two away and made one
 pub record Packed (n i : ℕ) (live : List ℕ) : Type 0 where
-  pub low : Below (n + i) live
   pub rising : Rising live
+  pub low : Below (n + i) live
   pub count : length live ≡ n - i

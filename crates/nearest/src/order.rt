@@ -1,6 +1,6 @@
 // The joining order of sinks.
 ghost use mathlib.Core.Path.{_≡_};
-ghost use Prim.Native.Nat.{_+_, _-_, _*_, _<_};
+ghost use Prim.Native.Nat.{_+_, _*_, _<_};
 ghost use lib.ListN.{length, set};
 ghost use Rattle.lists.specs.Grow.{front};
 ghost use Rattle.nearest.specs.Nearest.{without};
