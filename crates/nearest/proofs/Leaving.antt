@@ -20,8 +20,8 @@ without-append p (x ∷ xs) ys = go (isOf p x) (without-append p xs ys)
     go true r = r
     go false r = ap (λ (o : List ℕ). x ∷ o) r
 
-onward : (p : Pair) (old : List ℕ) (t : ℕ) → t < length old → without p (take (t + 1) old) ≡ without p (take t old) ++ without p (getD old t 0 ∷ [])
-onward p old t h = rw (add-one, take-suc old t 0 h) (without-append p (take t old) (getD old t 0 ∷ []))
+kept-more : (p : Pair) (old : List ℕ) (t : ℕ) → t < length old → without p (take (t + 1) old) ≡ without p (take t old) ++ without p (getD old t 0 ∷ [])
+kept-more p old t h = rw (add-one, take-suc old t 0 h) (without-append p (take t old) (getD old t 0 ∷ []))
 
 -- the first t are looked at, and the w of them that stay stand at the front
 pub record Leaving (p : Pair) (old live : List ℕ) (w t : ℕ) : Type 0 where
@@ -51,7 +51,7 @@ module _ {p : Pair} where
     leaving-keep h e =
         let a = getD live t 0 in
         let f : isOf p (getD old t 0) ≡ false = rw reads at e in
-        let n : without p (take (t + 1) old) ≡ without p (take t old) ++ (a ∷ []) = onward p old t (omega (arith, v .size)) ∙ rw (f, reads) in
+        let n : without p (take (t + 1) old) ≡ without p (take t old) ++ (a ∷ []) = kept-more p old t (omega (arith, v .size)) ∙ rw (f, reads) in
         record {
           is =
               ap (λ (l : List ℕ). set l w a) (v .is)
@@ -65,7 +65,7 @@ module _ {p : Pair} where
     pub leaving-drop : t < length live → isOf p (getD live t 0) ≡ true → Leaving p old live w (t + 1)
     leaving-drop h e =
         let f : isOf p (getD old t 0) ≡ true = rw reads at e in
-        let n : without p (take (t + 1) old) ≡ without p (take t old) = onward p old t (omega (arith, v .size)) ∙ rw f (append-nil (without p (take t old))) in
+        let n : without p (take (t + 1) old) ≡ without p (take t old) = kept-more p old t (omega (arith, v .size)) ∙ rw f (append-nil (without p (take t old))) in
         record { is = rw n (v .is); count = rw n (v .count); size = v .size; low = omega (arith, v .low) }
 
     pub leaving-end : length live ≤ t → (w ≡ length (without p old)) × (live ≡ front (without p old) old)
