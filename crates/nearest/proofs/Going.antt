@@ -88,14 +88,15 @@ going-begin n {live = live} rest js v b =
 pub pick-is : {s : Sinks} {n i : ℕ} {bs live js₀ js : List ℕ} (v : Going s n i bs live js₀ js) → best (reach bs) live ≡ chosen s (v .sets) live
 pick-is {s} {n} {i} {bs} v = best-same (reach bs) (union s (v .sets)) (n + i) (held-same (v .held)) (v .running .packed .low)
 
+-- there is a pair to find: what the leaf asks
+pub open-boxed : {n i : ℕ} {bs live js : List ℕ} → Open n i bs live js → All (Boxed bs) live × (2 ≤ length live)
+open-boxed o = (all-map (λ a h. omega (arith, o .box-room)) (o .packed .low), omega (arith, o .packed .count, o .turn))
+
 -- its two nodes are lower than the one that they make
 within-low : {n i : ℕ} {live : List ℕ} {p : Pair} → Packed n i live → Within live p → (p .low < n + i) × (p .high < n + i)
 within-low v w = (in-all (w .low-in) (v .low), in-all (w .high-in) (v .low))
 
-pub open-boxed : {n i : ℕ} {bs live js : List ℕ} → Open n i bs live js → All (Boxed bs) live × (2 ≤ length live)
-open-boxed o = (all-map (λ a h. omega (arith, o .box-room)) (o .packed .low), omega (arith, o .packed .count, o .turn))
-
--- and where they were there is room for it
+-- and in the list there is room for it in their place
 pub open-join : {n i : ℕ} {bs live js : List ℕ} (p : Pair) → Open n i bs live js → p ≡ best (reach bs) live → (p .low < n + i) × (p .high < n + i) × (length (without p live) < length live)
 open-join {bs = bs} p o e =
     let w = packed-within (reach bs) (o .packed) (o .turn) in
