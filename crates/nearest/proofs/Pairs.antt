@@ -22,10 +22,6 @@ use Rattle.nearest.specs.Live.Each.{nil, cons}
 pub tail-is : {A : Type 0} (l : List A) (a : ℕ) → take (length l - a) (drop a l) ≡ drop a l
 tail-is l a = take-all (length l - a) (drop a l) (omega (arith, length-drop a l))
 
--- and its part from the front
-pub zero-off : (x : ℕ) → x - 0 ≡ x
-zero-off x = omega arith
-
 -- ---- of two pairs
 module _ (d : ℕ → ℕ → ℕ) where
   abbrev pub weight : Pair → ℕ

@@ -14,9 +14,11 @@ pub data Each (Q : ℕ → List ℕ → Type 0) : List ℕ → Type 0 where
   nil : Each Q []
   cons : {a : ℕ} {ls : List ℕ} → Q a ls → Each Q ls → Each Q (a ∷ ls)
 
+-- each entry is lower than m
 abbrev pub Below : ℕ → List ℕ → Type 0
 Below m ls = All (λ a. a < m) ls
 
+-- each entry is lower than all that come after it
 abbrev pub Rising : List ℕ → Type 0
 Rising ls = Each (λ a bs. All (λ b. a < b) bs) ls
 

@@ -2,13 +2,14 @@
 use native.Mathlib.Nat.{le-of-lt}
 use lib.Pow.{pow-pos}
 use Rattle.lists.specs.Grow.{front}
+use Rattle.lists.proofs.Grow.{front-more}
 use mathlib.Core.Path.{_≡_, refl, sym, ap, ap₂, subst, _∙_}
-use mathlib.Core.List.{List, [], _∷_, _++_, map, foldl, foldl-append, map-append, append-assoc}
+use mathlib.Core.List.{List, [], _∷_, _++_, map, foldl, foldl-append, map-append}
 use Prim.Native.Nat.{ℕ, zero, suc, _+_, _-_, _^_, _≤_, _<_, min}
 use native.Mathlib.Omega.{arith}
 use native.Mathlib.Numerals.{add-one}
 use lib.ListN.{length, take, drop, getD, set, length-set, length-append, length-map, length-drop, List·getD-append}
-use lib.Seq.{drop-cons, set-at, take-nil, set-append-left}
+use lib.Seq.{take-nil, set-append-left}
 use Rattle.search.specs.Subsets.{rising, splits}
 use Rattle.search.specs.Table.{blankOf, blanks, costOf, pairUp, stepOf, steps, stepsOf, tableAfter}
 use Rattle.search.proofs.Scan.{Parts, parts-splits}
@@ -37,11 +38,9 @@ pub blanked-more : (s : ℕ) (t : List ℕ) → s < length t → set (blanked s 
 blanked-more s t h =
     let n : length (map blankOf (rising s 0)) ≡ s = length-map (rising s 0) blankOf ∙ rising-length s 0 in
     let e : rising (suc s) 0 ≡ rising s 0 ++ (s ∷ []) = rising-snoc s 0 ∙ ap (λ (x : ℕ). rising s 0 ++ (x ∷ [])) (let z : 0 + s ≡ s = omega arith in z) in
-    ap (λ (l : List ℕ). set (map blankOf (rising s 0) ++ l) s (blankOf s)) (drop-cons t s 0 h)
-    ∙ set-at (map blankOf (rising s 0)) (getD t s 0) (drop (suc s) t) (blankOf s) s n
-    ∙ sym (append-assoc (map blankOf (rising s 0)) (blankOf s ∷ []) (drop (suc s) t))
-    ∙ ap (λ (l : List ℕ). l ++ drop (suc s) t) (sym (map-append blankOf (rising s 0) (s ∷ [])) ∙ ap (map blankOf) (sym e))
-    ∙ ap (λ (x : ℕ). map blankOf (rising x 0) ++ drop x t) (sym (add-one s))
+    front-more (map blankOf (rising s 0)) t s (blankOf s) n h
+    ∙ ap (λ (l : List ℕ). l ++ drop (s + 1) t)
+    (sym (map-append blankOf (rising s 0) (s ∷ [])) ∙ ap (map blankOf) (sym e) ∙ ap (λ (x : ℕ). map blankOf (rising x 0)) (sym (add-one s)))
 
 pub blanked-length : (s : ℕ) (t : List ℕ) → s ≤ length t → length (blanked s t) ≡ length t
 blanked-length s t h = length-append (map blankOf (rising s 0)) (drop s t) ∙ omega (arith, length-map (rising s 0) blankOf, rising-length s 0, length-drop s t)
