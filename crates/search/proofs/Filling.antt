@@ -90,7 +90,7 @@ inside-append : (k : ℕ) (l m : List (ℕ × ℕ)) → Inside k l → Inside k 
 inside-append k [] m h g = g
 inside-append k (p ∷ l) m h g = (h .0, h .1, inside-append k l m (h .2) g)
 
-inside-take : (k i : ℕ) (l : List (ℕ × ℕ)) → Inside k l → Inside k (take i l)
+pub inside-take : (k i : ℕ) (l : List (ℕ × ℕ)) → Inside k l → Inside k (take i l)
 inside-take k zero l h = tt
 inside-take k (suc i) [] h = tt
 inside-take k (suc i) (p ∷ l) h = (h .0, h .1, inside-take k i l (h .2))

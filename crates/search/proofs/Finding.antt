@@ -13,7 +13,7 @@ use lib.Count.{ones-ones}
 use borrow.Author.Tests.{le-leb, lt-leb, leb-true, ltb-false}
 use Rattle.lists.specs.Grow.{front}
 use Rattle.zero_skew.specs.Plane.{Sinks}
-use Rattle.zero_skew.specs.Order.{Over}
+use Rattle.zero_skew.specs.Order.{Order, Over}
 use Rattle.plane.specs.Sinks.{sinksAt, Ranged, checkSinks}
 use Rattle.plane.specs.declared.refusal.Refusal.the-variants.{Room}
 use Rattle.plane.specs.declared.refusal.Checked.the-variants.{Fine}
@@ -30,9 +30,10 @@ use Rattle.search.specs.Kept.{joinCount, keptOrder, pairsOf}
 use Rattle.search.specs.Prepared.{Provided, Tabled}
 use Rattle.search.specs.Rooms.{checkRooms, checkSearch}
 use Rattle.search.specs.Searching.{found, joinsFound, keptJoins, tableOf}
-use Rattle.search.specs.Square.{Square, widest}
+use Rattle.search.specs.Square.{Square, Widths, held, widest}
 use Rattle.search.specs.Subsets.{diam}
 use Rattle.search.specs.Table.{steps, tableAfter}
+use Rattle.search.proofs.Agree.{kept-agree, table-agree}
 use Rattle.search.proofs.Distances.{widest-all}
 use Rattle.search.proofs.Filling.{after-length}
 use Rattle.search.proofs.Finished.{finished}
@@ -85,13 +86,16 @@ module _ (xs ys : List ℤ) (budget : ℕ) where
   pub squared : length xs ≤ 12 → (q : List (List ℕ)) → Square here q → widest q ≡ diam here
   squared few q square = widest-all here (λ i. refl) (let e : length xs ≤ 32 = omega arith in e) q square
 
-  pub wrote-kept : (q : List (List ℕ)) (table js js2 : List ℕ) → Tabled xs ys budget q table js → stepCount (length xs) ≤ budget
-      → js2 ≡ front (pairsOf (length xs) (keptOrder (widest q) (take (2 ^ length xs) table) (2 ^ length xs - 1)) 0) js → js2 ≡ front (joinsFound here budget) js
-  wrote-kept q table js js2 t h e =
-      let w = squared (t .prepared .few) q (t .square) in
+  pub diameters-are : length xs ≤ 12 → (q : List (List ℕ)) (ds : List ℕ) → Square here q → Widths q (2 ^ length xs) ds → (m : ℕ) → m < 2 ^ length xs → held ds m ≡ diam here m
+  diameters-are few q ds square w m h = w m h ∙ ap (λ (δ : ℕ → ℕ). δ m) (squared few q square)
+
+  pub wrote-kept : (ds table js js2 : List ℕ) → Tabled xs ys budget ds table js → stepCount (length xs) ≤ budget
+      → js2 ≡ front (pairsOf (length xs) (keptOrder (held ds) (take (2 ^ length xs) table) (2 ^ length xs - 1)) 0) js → js2 ≡ front (joinsFound here budget) js
+  wrote-kept ds table js js2 t h e =
+      let p : 2 ≤ 2 ^ length xs = pow-mono {i = 1} {j = length xs} (t .prepared .some) in
       e
-      ∙ ap (λ (l : List ℕ). front (pairsOf (length xs) (keptOrder (widest q) l (2 ^ length xs - 1)) 0) js) (t .after)
-      ∙ ap (λ (δ : ℕ → ℕ). front (pairsOf (length xs) (keptOrder δ (tableAfter δ (length xs) budget) (2 ^ length xs - 1)) 0) js) w
+      ∙ ap (λ (l : List ℕ). front (pairsOf (length xs) (keptOrder (held ds) l (2 ^ length xs - 1)) 0) js) (t .after ∙ table-agree (held ds) (diam here) (length xs) budget (t .diameters))
+      ∙ ap (λ (o : Order). front (pairsOf (length xs) o 0) js) (kept-agree (held ds) (diam here) (2 ^ length xs) (t .diameters) (tableOf here budget) (2 ^ length xs - 1) (2 ^ length xs - 1) (omega arith) (omega arith))
       ∙ ap (λ (l : List ℕ). front l js) (sym (joins-all here budget h))
 
   -- the first 2^n entries of the table after the steps

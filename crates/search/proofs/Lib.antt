@@ -7,6 +7,7 @@ pub mod Small
 pub mod Digits
 pub mod Rank
 pub mod Lowest
+pub mod Widths
 pub mod Splits
 pub mod Scan
 pub mod Filling
@@ -14,10 +15,12 @@ pub mod Counting
 -- the kept splits, and their joins as they are written
 pub mod KeptParts
 pub mod Numbering
+pub mod Agree
 -- the table
 pub mod Finished
 pub mod Bellman
 pub mod Recursion
+pub mod Pairs
 pub mod FirstLeast
 pub mod Partway
 pub mod Entries

@@ -1,4 +1,4 @@
--- The exact search's definitions. For a reader: Subsets, Best, Table, Entries, Kept, Rooms, Searching. For the code alone: Square, Prepared.
+-- The exact search's definitions. For a reader: Subsets, Best, Table, Entries, Kept, Rooms, Searching. For the code alone: Square, Sums, Prepared.
 pub mod Subsets
 pub mod Best
 pub mod Table
@@ -7,4 +7,5 @@ pub mod Kept
 pub mod Rooms
 pub mod Searching
 pub mod Square
+pub mod Sums
 pub mod Prepared

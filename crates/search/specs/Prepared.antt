@@ -8,9 +8,10 @@ use Rattle.lists.specs.Grow.{front}
 use Rattle.plane.specs.Sinks.{sinksAt, Ranged}
 use Rattle.embedding.specs.Embedding.{placesU, placesV, wires}
 use Rattle.search.specs.declared.search.Found.{Found}
+use Rattle.search.specs.Subsets.{diam}
 use Rattle.search.specs.Best.{stepCount}
 use Rattle.search.specs.Table.{tableAfter}
-use Rattle.search.specs.Square.{Square, widest}
+use Rattle.search.specs.Square.{held}
 use Rattle.search.specs.Searching.{tableOf, joinsFound, found}
 
 -- one to twelve sinks that were checked, and room for their table and their joins
@@ -28,11 +29,12 @@ pub record Provided (xs ys : List ℤ) (table js : List ℕ) (us vs : List ℤ) 
   pub room-v : 2 * length xs - 1 ≤ length vs
   pub room-w : 2 * length xs - 1 ≤ length ws
 
--- the square of the sinks, and their table after the steps of the budget
-pub record Tabled (xs ys : List ℤ) (budget : ℕ) (q : List (List ℕ)) (table js : List ℕ) : Type 0 where
+-- the diameters of the sinks' subsets, and their table after the steps of the budget
+pub record Tabled (xs ys : List ℤ) (budget : ℕ) (ds table js : List ℕ) : Type 0 where
   pub prepared : Prepared xs ys table js
-  pub square : Square (sinksAt xs ys) q
-  pub after : take (2 ^ length xs) table ≡ tableAfter (widest q) (length xs) budget
+  pub room-ds : 2 ^ length xs ≤ length ds
+  pub diameters : (m : ℕ) → m < 2 ^ length xs → held ds m ≡ diam (sinksAt xs ys) m
+  pub after : take (2 ^ length xs) table ≡ tableAfter (held ds) (length xs) budget
 
 -- the table and the joins are written
 pub record Joins (xs ys : List ℤ) (budget : ℕ) (table js : List ℕ) (steps : ℕ) (table′ js′ : List ℕ) : Type 0 where

@@ -30,6 +30,14 @@ unfoldable pub widestOf : List (List ℕ) → List ℕ → ℕ
 widestOf q [] = 0
 widestOf q (a ∷ l) = max (farthestOf (getD q a []) l) (widestOf q l)
 
+-- for the code alone: the diameters that a list holds
+abbrev pub held : List ℕ → ℕ → ℕ
+held ds m = getD ds m 0
+
 -- for the code alone: the greatest distance of two sinks of a subset
 unfoldable pub widest : List (List ℕ) → ℕ → ℕ
 widest q m = widestOf q (sinksIn 32 m)
+
+-- for the code alone: the first k of ds are the greatest distances in the subsets below k
+abbrev pub Widths : List (List ℕ) → ℕ → List ℕ → Type 0
+Widths q k ds = (m : ℕ) → m < k → held ds m ≡ widest q m

@@ -4,21 +4,69 @@ ghost use mathlib.Core.List.{foldl, map};
 ghost use Prim.Native.Nat.{_<_, _≤_, _^_, _-_, _+_, min};
 ghost use lib.ListN.{length, take, getD};
 ghost use Rattle.lists.specs.Grow.{front};
-ghost use Rattle.search.specs.Subsets.{splits};
-ghost use Rattle.search.specs.Best.{stepCount};
+ghost use Rattle.search.specs.Subsets.{splits, lowest};
+ghost use Rattle.search.specs.Best.{stepCount, leastOf};
 ghost use Rattle.search.specs.Table.{stepOf, pairUp, betterAt, blanks, tableAfter};
-ghost use Rattle.search.specs.Square.{widest};
+ghost use Rattle.search.specs.Square.{held};
+ghost use Rattle.search.specs.Sums.{sums};
 use crate::square;
 use crate::subset;
+
+// What the two parts of a split of s come to: `other`, and the part that holds the lowest sink.
+fn parts(table: &[u32], s: u32, other: u32) -> u64
+    requires { ⌜ (other ≤ s) × (s < length (now table)) ⌝ }
+    ensures { λ r. ⌜ (r < 2 ^ 33) × (r ≡ getD (now (table .entry)) (s - other) 0 + getD (now (table .entry)) other 0) ⌝ }
+{
+    subset::wide(table[subset::place(s - other)]) + subset::wide(table[subset::place(other)])
+}
 
 // What the split of s into `other` and the part that holds the lowest sink comes to.
 pub fn cost(table: &[u32], d: u32, s: u32, other: u32) -> u64
     requires { ⌜ (0 < other) × (other ≤ s) × (s < length (now table)) ⌝ }
     ensures { λ r. ⌜ r ≡ d + getD (now (table .entry)) (s - other) 0 + getD (now (table .entry)) other 0 ⌝ }
 {
-    subset::wide(d)
-        + subset::wide(table[subset::place(s - other)])
-        + subset::wide(table[subset::place(other)])
+    subset::wide(d) + parts(table, s, other)
+}
+
+fn smaller(x: u64, y: u64) -> u64
+    ensures { λ r. ⌜ r ≡ min x y ⌝ }
+{
+    if x < y { x } else { y }
+}
+
+// The least that the splits of s come to without its diameter, where `rest` is s without its lowest sink. They are met two by two: a part without the second sink, and the next one with it.
+fn least_parts(table: &[u32], s: u32, rest: u32) -> u64
+    requires { ⌜ (0 < s) × (rest ≡ s - 2 ^ lowest s) × (0 < rest) × (s < length (now table)) ⌝ }
+    ensures { λ r. ⌜ (r < 2 ^ 33) × (r ≡ leastOf (sums (now (table .entry)) s) (splits s)) ⌝ }
+{
+    let more = subset::beyond(rest);
+    let second = rest - more;
+    let mut other = more;
+    let mut least = parts(table, s, rest);
+    while other != 0 {
+        let without = parts(table, s, other);
+        other = (other - 1) & more;
+        least = smaller(least, smaller(without, parts(table, s, other + second)));
+    }
+    least
+}
+
+// Examines all splits of s, where d is its diameter.
+fn examine_all(table: &[u32], d: u32, s: u32) -> u32
+    requires { ⌜ (0 < s) × (s < length (now table)) ⌝ }
+    ensures { λ r. ⌜ r ≡ foldl (betterAt d (now (table .entry)) s) (getD (now (table .entry)) s 0) (splits s) ⌝ }
+{
+    let best = table[subset::place(s)];
+    let rest = subset::beyond(s);
+    if rest == 0 {
+        return best;
+    }
+    let sum = subset::wide(d) + least_parts(table, s, rest);
+    if sum < subset::wide(best) {
+        sum as u32
+    } else {
+        best
+    }
 }
 
 // The least that examined splits come to, and what is left of a budget.
@@ -28,7 +76,7 @@ pub struct Examined {
 }
 
 // Examines the splits of s, at most `budget` of them, where d is its diameter. They are met by the part without the lowest sink, in falling order.
-fn examine(table: &[u32], d: u32, s: u32, budget: u64) -> Examined
+fn examine_some(table: &[u32], d: u32, s: u32, budget: u64) -> Examined
     requires { ⌜ (0 < s) × (s < 2 ^ 12) × (s < length (now table)) ⌝ }
     ensures { λ r. ⌜ (r .left ≡ budget - length (splits s)) × (r .least ≡ foldl (betterAt d (now (table .entry)) s) (getD (now (table .entry)) s 0) (take budget (splits s))) ⌝ }
 {
@@ -53,13 +101,28 @@ fn examine(table: &[u32], d: u32, s: u32, budget: u64) -> Examined
     }
 }
 
-// Takes the steps of s, at most `budget` of them, and returns what is left of the budget.
-fn fill_subset(q: [[u32; 12]; 12], table: &mut [u32], s: u32, budget: u64) -> u64
+// The same, at once where the budget goes to the end.
+fn examine(table: &[u32], d: u32, s: u32, budget: u64) -> Examined
     requires { ⌜ (0 < s) × (s < 2 ^ 12) × (s < length (now table)) ⌝ }
-    ensures { λ r. ⌜ r ≡ budget - length (splits s) ⌝ }
-    ensures { λ _. ⌜ now (table .exit) ≡ foldl (stepOf (widest q)) (now (table .entry)) (map (pairUp s) (take budget (splits s))) ⌝ }
+    ensures { λ r. ⌜ (r .left ≡ budget - length (splits s)) × (r .least ≡ foldl (betterAt d (now (table .entry)) s) (getD (now (table .entry)) s 0) (take budget (splits s))) ⌝ }
 {
-    let found = examine(table, square::diameter(q, s), s, budget);
+    let all = subset::split_count(s);
+    if budget < all {
+        return examine_some(table, d, s, budget);
+    }
+    Examined {
+        least: examine_all(table, d, s),
+        left: budget - all,
+    }
+}
+
+// Takes the steps of s, at most `budget` of them, and returns what is left of the budget.
+fn fill_subset(ds: &[u32], table: &mut [u32], s: u32, budget: u64) -> u64
+    requires { ⌜ (0 < s) × (s < 2 ^ 12) × (s < length (now table)) × (s < length (now ds)) ⌝ }
+    ensures { λ r. ⌜ r ≡ budget - length (splits s) ⌝ }
+    ensures { λ _. ⌜ now (table .exit) ≡ foldl (stepOf (held (now (ds .entry)))) (now (table .entry)) (map (pairUp s) (take budget (splits s))) ⌝ }
+{
+    let found = examine(table, square::diameter(ds, s), s, budget);
     table[subset::place(s)] = found.least;
     found.left
 }
@@ -77,18 +140,18 @@ fn clear(table: &mut [u32], n: u32)
     }
 }
 
-// Takes at most `budget` steps, the subsets of n sinks in rising order, and returns how many.
-pub fn fill(q: [[u32; 12]; 12], table: &mut [u32], n: u32, budget: u64) -> u64
-    requires { ⌜ (n ≤ 12) × (2 ^ n ≤ length (now table)) ⌝ }
+// Takes at most `budget` steps, where ds are the diameters, the subsets of n sinks in rising order, and returns how many.
+pub fn fill(ds: &[u32], table: &mut [u32], n: u32, budget: u64) -> u64
+    requires { ⌜ (n ≤ 12) × (2 ^ n ≤ length (now table)) × (2 ^ n ≤ length (now ds)) ⌝ }
     ensures { λ r. ⌜ r ≡ min budget (stepCount n) ⌝ }
-    ensures { λ _. ⌜ now (table .exit) ≡ front (tableAfter (widest q) n budget) (now (table .entry)) ⌝ }
+    ensures { λ _. ⌜ now (table .exit) ≡ front (tableAfter (held (now (ds .entry))) n budget) (now (table .entry)) ⌝ }
 {
     clear(table, n);
     let size = subset::subsets(n);
     let mut left = budget;
     let mut s: u32 = 1;
     while s < size {
-        left = fill_subset(q, table, s, left);
+        left = fill_subset(ds, table, s, left);
         s += 1;
     }
     budget - left

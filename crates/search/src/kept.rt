@@ -5,18 +5,18 @@ ghost use lib.Count.{ones};
 ghost use lib.Seq.{sets};
 ghost use lib.ListN.{length, set, take};
 ghost use Rattle.lists.specs.Grow.{front};
-ghost use Rattle.search.specs.Square.{widest};
+ghost use Rattle.search.specs.Square.{held};
 ghost use Rattle.search.specs.Kept.{keptPart, keptOrder, pairsOf, nodeOf};
 use crate::fill;
 use crate::square;
 use crate::subset;
 
 // The part with the lowest sink, in the split of s that is kept.
-fn kept(q: [[u32; 12]; 12], table: &[u32], s: u32) -> u32
-    requires { ⌜ (0 < s) × (s < 2 ^ 12) × (s < length (now table)) ⌝ }
-    ensures { λ r. ⌜ r ≡ keptPart (widest q) (now (table .entry)) s ⌝ }
+fn kept(ds: &[u32], table: &[u32], s: u32) -> u32
+    requires { ⌜ (0 < s) × (s < 2 ^ 12) × (s < length (now table)) × (s < length (now ds)) ⌝ }
+    ensures { λ r. ⌜ r ≡ keptPart (held (now (ds .entry))) (now (table .entry)) s ⌝ }
 {
-    let d = square::diameter(q, s);
+    let d = square::diameter(ds, s);
     let rest = subset::beyond(s);
     let goal = subset::wide(table[subset::place(s)]);
     let mut other = rest;
@@ -51,35 +51,28 @@ fn put(out: &mut [u16], i: usize, x: u16, y: u16)
 }
 
 // Writes the joins of s as pairs, where `made` joins are made before, and returns how many are made then.
-pub fn joins(
-    q: [[u32; 12]; 12],
-    table: &[u32],
-    n: usize,
-    s: u32,
-    out: &mut [u16],
-    made: usize,
-) -> usize
-    requires { ⌜ (0 < n) × (n ≤ 12) × (0 < s) × (s < 2 ^ 12) × (s < length (now table)) × (made + ones s ≤ 12) × (2 * (made + (ones s - 1)) ≤ length (now out)) ⌝ }
+pub fn joins(ds: &[u32], table: &[u32], n: usize, s: u32, out: &mut [u16], made: usize) -> usize
+    requires { ⌜ (0 < n) × (n ≤ 12) × (0 < s) × (s < 2 ^ 12) × (s < length (now table)) × (made + ones s ≤ 12) × (2 * (made + (ones s - 1)) ≤ length (now out)) × (s < length (now ds)) ⌝ }
     ensures { λ r. ⌜ r ≡ made + (ones s - 1) ⌝ }
-    ensures { λ _. ⌜ now (out .exit) ≡ sets (now (out .entry)) (2 * made) (pairsOf n (keptOrder (widest q) (now (table .entry)) s) made) ⌝ }
+    ensures { λ _. ⌜ now (out .exit) ≡ sets (now (out .entry)) (2 * made) (pairsOf n (keptOrder (held (now (ds .entry))) (now (table .entry)) s) made) ⌝ }
 {
     if u32::count_ones(s) < 2 {
         return made;
     }
-    let a = kept(q, table, s);
+    let a = kept(ds, table, s);
     let b = s - a;
-    let mid = joins(q, table, n, a, out, made);
-    let end = joins(q, table, n, b, out, mid);
+    let mid = joins(ds, table, n, a, out, made);
+    let end = joins(ds, table, n, b, out, mid);
     put(out, end, node(a, n, mid), node(b, n, end));
     end + 1
 }
 
 // Writes the joins of all n sinks, by the table of their subsets.
-pub fn write_kept(q: [[u32; 12]; 12], table: &[u32], n: usize, js: &mut [u16])
-    requires { ⌜ (0 < n) × (n ≤ 12) × (2 ^ n ≤ length (now table)) × (2 * (n - 1) ≤ length (now js)) ⌝ }
-    ensures { λ _. ⌜ now (js .exit) ≡ front (pairsOf n (keptOrder (widest q) (take (2 ^ n) (now (table .entry))) (2 ^ n - 1)) 0) (now (js .entry)) ⌝ }
+pub fn write_kept(ds: &[u32], table: &[u32], n: usize, js: &mut [u16])
+    requires { ⌜ (0 < n) × (n ≤ 12) × (2 ^ n ≤ length (now table)) × (2 * (n - 1) ≤ length (now js)) × (2 ^ n ≤ length (now ds)) ⌝ }
+    ensures { λ _. ⌜ now (js .exit) ≡ front (pairsOf n (keptOrder (held (now (ds .entry))) (take (2 ^ n) (now (table .entry))) (2 ^ n - 1)) 0) (now (js .entry)) ⌝ }
 {
     let all = subset::subsets(subset::sinks(n));
     let size = subset::place(all);
-    joins(q, &table[0..size], n, all - 1, js, 0);
+    joins(ds, &table[0..size], n, all - 1, js, 0);
 }

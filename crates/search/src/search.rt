@@ -29,22 +29,15 @@ pub enum Searched {
 }
 
 // Writes the joins that the budget allows: of the kept splits, or by least diameter.
-fn write_joins(
-    xs: &[i32],
-    ys: &[i32],
-    budget: u64,
-    q: [[u32; 12]; 12],
-    table: &[u32],
-    js: &mut [u16],
-)
-    requires { ⌜ Tabled (now xs) (now ys) budget q (now table) (now js) ⌝ }
+fn write_joins(xs: &[i32], ys: &[i32], budget: u64, ds: &[u32], table: &[u32], js: &mut [u16])
+    requires { ⌜ Tabled (now xs) (now ys) budget (now ds) (now table) (now js) ⌝ }
     ensures { λ _. ⌜ now (js .exit) ≡ front (joinsFound (sinksAt (now (xs .entry)) (now (ys .entry))) budget) (now (js .entry)) ⌝ }
 {
     let n = xs.len();
     if budget < subset::all_steps(n) {
         order::order_sound(xs, ys, js);
     } else {
-        kept::write_kept(q, table, n, js);
+        kept::write_kept(ds, table, n, js);
     }
 }
 
@@ -53,9 +46,11 @@ fn search_joins(xs: &[i32], ys: &[i32], budget: u64, table: &mut [u32], js: &mut
     requires { ⌜ Prepared (now xs) (now ys) (now table) (now js) ⌝ }
     ensures { λ r. ⌜ Joins (now (xs .entry)) (now (ys .entry)) budget (now (table .entry)) (now (js .entry)) r (now (table .exit)) (now (js .exit)) ⌝ }
 {
-    let q = square::square(xs, ys);
-    let steps = fill::fill(q, table, subset::sinks(xs.len()), budget);
-    write_joins(xs, ys, budget, q, table, js);
+    let n = subset::sinks(xs.len());
+    let mut ds: [u32; 4096] = [0; 4096];
+    square::diameters(square::square(xs, ys), &mut ds, n);
+    let steps = fill::fill(&ds, table, n, budget);
+    write_joins(xs, ys, budget, &ds, table, js);
     steps
 }
 

@@ -1,11 +1,11 @@
-// Distances between sinks, in a square of twelve rows by twelve, and the diameter of a subset from them.
+// Distances between sinks, in a square of twelve rows by twelve, and the diameters of all subsets from them.
 ghost use mathlib.Core.Path.{_≡_};
-ghost use Prim.Native.Nat.{_<_, _≤_, _^_};
-ghost use lib.ListN.{length};
+ghost use Prim.Native.Nat.{_<_, _≤_, _^_, _-_, max};
+ghost use lib.ListN.{length, getD};
 ghost use Rattle.zero_skew.specs.Plane.{dist};
 ghost use Rattle.plane.specs.Sinks.{sinksAt, Ranged};
-ghost use Rattle.search.specs.Subsets.{sinksIn};
-ghost use Rattle.search.specs.Square.{Square, RowOf, farthestOf, widest};
+ghost use Rattle.search.specs.Subsets.{lowest};
+ghost use Rattle.search.specs.Square.{Square, RowOf, Widths, held};
 use crate::subset;
 use plane::bounds;
 use plane::boxes;
@@ -47,38 +47,50 @@ pub fn square(xs: &[i32], ys: &[i32]) -> [[u32; 12]; 12]
     q
 }
 
-// The greatest distance to a sink of the subset s, from a row of the square.
-fn farthest(row: [u32; 12], s: u32) -> u32
-    requires { ⌜ s < 2 ^ 12 ⌝ }
-    ensures { λ r. ⌜ r ≡ farthestOf row (sinksIn 32 s) ⌝ }
+// The larger of two.
+fn larger(x: u32, y: u32) -> u32
+    ensures { λ r. ⌜ r ≡ max x y ⌝ }
 {
-    let mut far: u32 = 0;
-    let mut left = s;
-    while left != 0 {
-        let b = subset::first(left);
-        let d = row[b];
-        if far < d {
-            far = d;
-        }
-        left = subset::beyond(left);
-    }
-    far
+    if x < y { y } else { x }
 }
 
-// The greatest of the distances between sinks of s.
-pub fn diameter(q: [[u32; 12]; 12], s: u32) -> u32
-    requires { ⌜ s < 2 ^ 12 ⌝ }
-    ensures { λ r. ⌜ r ≡ widest q s ⌝ }
+// The diameter of s, of those in ds.
+pub fn diameter(ds: &[u32], s: u32) -> u32
+    requires { ⌜ s < length (now ds) ⌝ }
+    ensures { λ r. ⌜ r ≡ held (now (ds .entry)) s ⌝ }
 {
-    let mut most: u32 = 0;
-    let mut left = s;
-    while left != 0 {
-        let a = subset::first(left);
-        left = subset::beyond(left);
-        let d = farthest(q[a], left);
-        if most < d {
-            most = d;
+    ds[subset::place(s)]
+}
+
+// The diameter of a subset of two or more, where its two lowest sinks are `near` apart: the greatest of that, of the diameter of all but the lowest, and of that of all but the second.
+fn spread(near: u32, ds: &[u32], s: u32, rest: u32) -> u32
+    requires { ⌜ (0 < rest) × (rest ≤ s) × (s < length (now ds)) ⌝ }
+    ensures { λ r. ⌜ r ≡ max near (max (getD (now (ds .entry)) rest 0) (getD (now (ds .entry)) (s - 2 ^ lowest rest) 0)) ⌝ }
+{
+    let last = subset::beyond(rest);
+    larger(
+        near,
+        larger(diameter(ds, rest), diameter(ds, s - (rest - last))),
+    )
+}
+
+// The diameters of all subsets of n sinks, from the square.
+pub fn diameters(q: [[u32; 12]; 12], ds: &mut [u32], n: u32)
+    requires { ⌜ (n ≤ 12) × (2 ^ n ≤ length (now ds)) ⌝ }
+    ensures { λ _. ⌜ Widths q (2 ^ n) (now (ds .exit)) ⌝ }
+{
+    let size = subset::subsets(n);
+    let mut s: u32 = 1;
+    ds[0] = 0;
+    while s < size {
+        let rest = subset::beyond(s);
+        let mut d: u32 = 0;
+        if rest != 0 {
+            let a = subset::first(s);
+            let b = subset::first(rest);
+            d = spread(q[a][b], ds, s, rest);
         }
+        ds[subset::place(s)] = d;
+        s += 1;
     }
-    most
 }

@@ -1,7 +1,8 @@
 // A subset of the sinks is a number whose bit i stands for sink i.
 ghost use mathlib.Core.Path.{_≡_};
 ghost use Prim.Native.Nat.{_<_, _≤_, _^_, _-_};
-ghost use Rattle.search.specs.Subsets.{lowest};
+ghost use lib.ListN.{length};
+ghost use Rattle.search.specs.Subsets.{lowest, splits};
 ghost use Rattle.search.specs.Best.{stepCount};
 ghost use Rattle.search.specs.Table.{blankOf};
 
@@ -48,6 +49,14 @@ pub fn subsets(n: u32) -> u32
     ensures { λ r. ⌜ (r ≡ 2 ^ n) × (0 < r) × (r ≤ 4096) ⌝ }
 {
     1u32 << n
+}
+
+// How many splits s has.
+pub fn split_count(s: u32) -> u64
+    requires { ⌜ (0 < s) × (s < 2 ^ 12) ⌝ }
+    ensures { λ r. ⌜ r ≡ length (splits s) ⌝ }
+{
+    wide(subsets(u32::count_ones(s) - 1)) - 1
 }
 
 // What a subset holds before any of its splits is examined.

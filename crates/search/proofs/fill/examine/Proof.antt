@@ -1,95 +1,37 @@
--- `search::least_of` meets its contract. The loop's invariant is `Scan`.
-use mathlib.Core.Path.{_≡_, ap, _∙_}
-use mathlib.Core.Logic.{inl, inr, ⊎-elim}
-use Prim.Native.Nat.{ℕ, _<_, _-_, _^_, min}
+-- `search::examine` meets its contract.
+use mathlib.Core.Path.{_≡_, sym, ap, _∙_}
+use mathlib.Core.List.{List, foldl}
+use Prim.Native.Nat.{ℕ, _≤_, _-_}
 use native.Mathlib.Omega.{arith}
+use lib.ListN.{getD, length}
+use lib.Seq.{take-all}
+use Rattle.search.specs.Subsets.{splits}
+use Rattle.search.specs.Table.{betterAt}
 use borrow.Author.Needs.{needs}
-use lib.ListN.{getD}
-use lib.Bits.{and-le-l}
-use Rattle.search.specs.Subsets.{lowest}
-use Rattle.search.proofs.Digits.{sub-le}
-use Rattle.search.proofs.Lowest.{beyond-lt}
-use Rattle.search.proofs.Scan.{Scan, scan-end, scan-start, scan-turn}
 use Rattle.search.proofs.fill.examine.Statement.{statement}
 use Rattle.search.proofs.fill.examine.Tie as tie
 
-abbrev Inv-loop : tie.InvT-loop
-Inv-loop table d s budget rest other₀ left₀ best₀ other left best = Scan d table s budget other left best
+split-count-requires : tie.Need-split-count-requires
+split-count-requires c κs = search needs
 
-abbrev μ-loop : tie.MeasureT-loop
-μ-loop table d s budget rest other₀ left₀ best₀ other left best = other
+examine-some-requires : tie.Need-examine-some-requires
+examine-some-requires c κs = search needs
 
-below : (c : tie.At-loop Inv-loop μ-loop) → c .loop .other < c .before .before .before .before .before .args .s
-below c =
-    let z = c .before .before .before .before .before in
-    omega (arith, sub-le (c .loop .other) (z .args .s - 2 ^ lowest (z .args .s)) (c .loop .inv .0), beyond-lt (z .args .s) (z .pre .0))
+returns : tie.Need-returns
+returns c = search needs
 
-beyond-requires : tie.Need-beyond-requires Inv-loop μ-loop
-beyond-requires c κs = c .before .pre .0
+examine-all-requires : tie.Need-examine-all-requires
+examine-all-requires c κs = search needs
 
-place-requires : tie.Need-place-requires Inv-loop μ-loop
-place-requires c κs = search needs
-
-mul-best : tie.Need-mul-best Inv-loop μ-loop
-mul-best c = search needs
-
-shared-slice-read-best : tie.Need-shared-slice-read-best Inv-loop μ-loop
-shared-slice-read-best c = search needs
-
-loop-holds : tie.Need-loop-holds Inv-loop μ-loop
-loop-holds c =
-    let z = c .before .before .before .before in
-    scan-start (z .args .d) (z .args .table .now) (z .args .s) (z .pre .0) (z .args .budget) (c .before .before .beyond .result)
-    (getD (z .args .table .now) (c .before .place .result) 0) (c .before .before .beyond .ensures) (ap (λ (x : ℕ). getD (z .args .table .now) x 0) (c .before .place .ensures))
-
-cost-requires : tie.Need-cost-requires Inv-loop μ-loop
-cost-requires c κs =
-    let h : c .before .before .loop .other < c .before .before .before .before .before .before .before .args .s = below (c .before .before) in
-    let p = c .before .before .before .before .before .before .before .pre in
-    (omega arith, omega arith, p .2)
-
-wide-requires : tie.Need-wide-requires Inv-loop μ-loop
-wide-requires c κs = search needs
-
-cast-best : tie.Need-cast-best Inv-loop μ-loop
-cast-best c = omega arith
-
-sub-other : tie.Need-sub-other Inv-loop μ-loop
-sub-other c = omega arith
-
-sub-left : tie.Need-sub-left Inv-loop μ-loop
-sub-left c = omega arith
-
-loop-less : tie.Need-loop-less Inv-loop μ-loop
-loop-less c =
-    let l = c .before .before .before .before .before .loop in
-    let r = c .before .before .before .before .before .before .before .before .beyond .result in
-    omega (arith, and-le-l (l .other - 1) r)
-
-best-is : (c : tie.Joined2 Inv-loop μ-loop) → c .if2 .best ≡ min (c .before .before .before .before .before .loop .best) (c .before .before .cost .result)
-best-is c = ⊎-elim (λ w. omega arith) (λ w. omega arith) (c .if2 .came)
-
-loop-again : tie.Need-loop-again Inv-loop μ-loop
-loop-again c =
-    let l = c .before .before .before .before .before .loop in
-    let b = c .before .before .before .before .before .before .before .before .beyond in
-    let z = c .before .before .before .before .before .before .before .before .before .before in
-    scan-turn (z .args .d) (z .args .table .now) (z .args .s) (z .pre .0) (z .args .budget) (b .result) (l .other) (l .left) (l .best) (c .if2 .best)
-    (b .ensures) (l .inv) (omega arith) (omega arith) (best-is c ∙ ap (λ (x : ℕ). min (l .best) x) (c .before .before .cost .ensures))
-
-returns : tie.Need-returns Inv-loop μ-loop
-returns c =
-    let l = c .before .loop in
-    let z = c .before .before .before .before .before .before in
-    scan-end (z .args .d) (z .args .table .now) (z .args .s) (z .pre .0) (z .args .budget) (l .other) (l .left) (l .best) (l .inv) (inl (omega arith))
-
-returns-2 : tie.Need-returns-2 Inv-loop μ-loop
+returns-2 : tie.Need-returns-2
 returns-2 c =
-    let l = c .before .before .loop in
-    let z = c .before .before .before .before .before .before .before in
-    scan-end (z .args .d) (z .args .table .now) (z .args .s) (z .pre .0) (z .args .budget) (l .other) (l .left) (l .best) (l .inv) (inr (c .if1 .taken))
+    let a = c .before .before .before .before .args in
+    let h : length (splits (a .s)) ≤ a .budget = omega (arith, c .before .before .split-count .ensures) in (
+      ap (λ (k : ℕ). a .budget - k) (c .before .before .split-count .ensures),
+      c .examine-all .ensures ∙ ap (foldl (betterAt (a .d) (a .table .now) (a .s)) (getD (a .table .now) (a .s) 0)) (sym (take-all (a .budget) (splits (a .s)) h)),
+    )
 
 pub examine-spec : {M : Type 1} → statement M
 examine-spec =
     tie.close
-    (tie.spec Inv-loop μ-loop beyond-requires place-requires mul-best shared-slice-read-best loop-holds cost-requires wide-requires cast-best sub-other sub-left loop-less loop-again returns returns-2)
+    (tie.spec split-count-requires examine-some-requires returns examine-all-requires returns-2)

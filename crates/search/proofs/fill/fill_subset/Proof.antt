@@ -1,6 +1,6 @@
 -- `search::fill_subset` meets its contract.
 use borrow.Author.Needs.{needs}
-use Rattle.search.specs.Square.{widest}
+use Rattle.search.specs.Square.{held}
 use Rattle.search.proofs.Scan.{subset-is}
 use Rattle.search.proofs.fill.fill_subset.Statement.{statement}
 use Rattle.search.proofs.fill.fill_subset.Tie as tie
@@ -25,10 +25,10 @@ same-length c = search needs
 
 returns : tie.Need-returns
 returns c =
-    let z = c .before .before .before .before .before in
+    let z = c .before .before .before .before .before .before in
     let f = c .before .examine in (
       f .ensures .0,
-      subset-is (widest (z .args .q)) (z .args .table .now) (z .args .s) (z .args .budget) (c .before .before .diameter .result) (c .place .result) (f .result .least)
+      subset-is (held (z .args .ds .now)) (z .args .table .now) (z .args .s) (z .args .budget) (c .before .before .diameter .result) (c .place .result) (f .result .least)
           (z .pre .0) (z .pre .2) (c .before .before .diameter .ensures) (c .place .ensures) (f .ensures .1),
     )
 

@@ -6,7 +6,7 @@ use borrow.Author.Needs.{needs}
 use lib.ListN.{getD}
 use lib.Bits.{bitAnd, and-le-l, and-self}
 use Rattle.search.specs.Kept.{keptPart}
-use Rattle.search.specs.Square.{widest}
+use Rattle.search.specs.Square.{held}
 use Rattle.search.specs.Subsets.{lowest}
 use Rattle.search.proofs.Digits.{Sub, low-le, self-lt, sub-and, sub-le}
 use Rattle.search.proofs.KeptParts.{found, kept-hit, kept-miss, kept-none, kept-start}
@@ -15,32 +15,32 @@ use Rattle.search.proofs.kept.kept.Statement.{statement}
 use Rattle.search.proofs.kept.kept.Tie as tie
 
 abbrev Inv-loop : tie.InvT-loop
-Inv-loop table s d rest goal other₀ other = Sub other (s - 2 ^ lowest s) × (found d table s goal other ≡ found d table s goal rest)
+Inv-loop ds table s d rest goal other₀ other = Sub other (s - 2 ^ lowest s) × (found d table s goal other ≡ found d table s goal rest)
 
 abbrev μ-loop : tie.MeasureT-loop
-μ-loop table s d rest goal other₀ other = other
+μ-loop ds table s d rest goal other₀ other = other
 
-below : (c : tie.At-loop Inv-loop μ-loop) → c .loop .other < c .before .before .before .before .before .before .before .args .s
+below : (c : tie.At-loop Inv-loop μ-loop) → c .loop .other < c .before .before .before .before .before .before .before .before .args .s
 below c =
-    let z = c .before .before .before .before .before .before .before in
+    let z = c .before .before .before .before .before .before .before .before in
     omega (arith, sub-le (c .loop .other) (z .args .s - 2 ^ lowest (z .args .s)) (c .loop .inv .0), beyond-lt (z .args .s) (z .pre .0))
 
 -- what the scan finds where it begins
 begins : (c : tie.At-loop Inv-loop μ-loop)
-    → found (c .before .before .before .before .before .diameter .result) (c .before .before .before .before .before .before .before .args .table .now) (c .before .before .before .before .before .before .before .args .s) (c .before .wide .result) (c .before .before .before .before .beyond .result)
-    ≡ keptPart (widest (c .before .before .before .before .before .before .before .args .q)) (c .before .before .before .before .before .before .before .args .table .now) (c .before .before .before .before .before .before .before .args .s)
+    → found (c .before .before .before .before .before .diameter .result) (c .before .before .before .before .before .before .before .before .args .table .now) (c .before .before .before .before .before .before .before .before .args .s) (c .before .wide .result) (c .before .before .before .before .beyond .result)
+    ≡ keptPart (held (c .before .before .before .before .before .before .before .before .args .ds .now)) (c .before .before .before .before .before .before .before .before .args .table .now) (c .before .before .before .before .before .before .before .before .args .s)
 begins c =
-    let z = c .before .before .before .before .before .before .before in
-    kept-start (c .before .before .before .before .before .diameter .result) (z .args .table .now) (z .args .s) (c .before .wide .result) (z .pre .0) (widest (z .args .q))
+    let z = c .before .before .before .before .before .before .before .before in
+    kept-start (c .before .before .before .before .before .diameter .result) (z .args .table .now) (z .args .s) (c .before .wide .result) (z .pre .0) (held (z .args .ds .now))
     (c .before .before .before .before .beyond .result) (c .before .before .before .before .before .diameter .ensures)
     (c .before .wide .ensures .0 ∙ ap (λ (x : ℕ). getD (z .args .table .now) x 0) (c .before .before .before .place .ensures))
     (c .before .before .before .before .beyond .ensures)
 
 diameter-requires : tie.Need-diameter-requires Inv-loop μ-loop
-diameter-requires c κs = c .before .pre .1
+diameter-requires c κs = c .before .before .pre .3
 
 beyond-requires : tie.Need-beyond-requires Inv-loop μ-loop
-beyond-requires c κs = c .before .before .pre .0
+beyond-requires c κs = c .before .before .before .pre .0
 
 place-requires : tie.Need-place-requires Inv-loop μ-loop
 place-requires c κs = search needs
@@ -56,12 +56,12 @@ wide-requires c κs = search needs
 
 loop-holds : tie.Need-loop-holds Inv-loop μ-loop
 loop-holds c =
-    let s = c .before .before .before .before .before .before .args .s in
+    let s = c .before .before .before .before .before .before .before .args .s in
     (subst (λ (x : ℕ). Sub x (s - 2 ^ lowest s)) (sym (c .before .before .before .beyond .ensures)) (and-self (s - 2 ^ lowest s)), refl)
 
 cost-requires : tie.Need-cost-requires Inv-loop μ-loop
 cost-requires c κs =
-    let z = c .before .before .before .before .before .before .before .before in
+    let z = c .before .before .before .before .before .before .before .before .before in
     (omega arith, omega (arith, below (c .before)), z .pre .2)
 
 sub-result : tie.Need-sub-result Inv-loop μ-loop
@@ -70,7 +70,7 @@ sub-result c = omega (arith, below (c .before .before .before))
 returns : tie.Need-returns Inv-loop μ-loop
 returns c =
     let l = c .before .before .before .loop in
-    let z = c .before .before .before .before .before .before .before .before .before .before in
+    let z = c .before .before .before .before .before .before .before .before .before .before .before in
     sym
     (kept-hit (c .before .before .before .before .before .before .before .before .diameter .result) (z .args .table .now) (z .args .s) (c .before .before .before .before .wide .result) (z .pre .0)
     (l .other) (omega arith) (l .inv .0) (sym (c .before .cost .ensures) ∙ c .if1 .taken))
@@ -87,7 +87,7 @@ loop-again : tie.Need-loop-again Inv-loop μ-loop
 loop-again c =
     let l = c .before .before .before .loop in
     let b = c .before .before .before .before .before .before .before .beyond in
-    let z = c .before .before .before .before .before .before .before .before .before .before in
+    let z = c .before .before .before .before .before .before .before .before .before .before .before in
     let d = c .before .before .before .before .before .before .before .before .diameter .result in
     let g = c .before .before .before .before .wide .result in (
       subst (λ (r : ℕ). Sub (bitAnd (l .other - 1) r) (z .args .s - 2 ^ lowest (z .args .s))) (sym (b .ensures)) (sub-and (z .args .s - 2 ^ lowest (z .args .s)) (l .other - 1)),
@@ -102,7 +102,7 @@ sub-result-2 c = omega (arith, c .before .before .before .before .before .beyond
 returns-2 : tie.Need-returns-2 Inv-loop μ-loop
 returns-2 c =
     let l = c .before .loop in
-    let z = c .before .before .before .before .before .before .before .before in
+    let z = c .before .before .before .before .before .before .before .before .before in
     let d = c .before .before .before .before .before .before .diameter .result in
     let g = c .before .before .wide .result in
     let e : l .other ≡ 0 = omega arith in

@@ -5,7 +5,7 @@ use lib.ListN.{length-take}
 use lib.Count.{ones, ones-ones}
 use lib.Pow.{pow-mono}
 use borrow.Author.Needs.{needs}
-use Rattle.search.specs.Square.{widest}
+use Rattle.search.specs.Square.{held}
 use Rattle.search.proofs.KeptJoins.{kept-written}
 use Rattle.search.proofs.kept.write_kept.Statement.{statement}
 use Rattle.search.proofs.kept.write_kept.Tie as tie
@@ -26,7 +26,7 @@ part-joins-start : tie.Need-part-joins-start
 part-joins-start c = search needs
 
 -- the number of subsets
-all-is : (c : tie.After-place) → c .before .subsets .result ≡ 2 ^ c .before .before .before .before .before .args .n
+all-is : (c : tie.After-place) → c .before .subsets .result ≡ 2 ^ c .before .before .before .before .before .before .args .n
 all-is c = c .before .subsets .ensures .0 ∙ ap (λ (x : ℕ). 2 ^ x) (c .before .before .sinks .ensures)
 
 part-joins-end : tie.Need-part-joins-end
@@ -37,7 +37,7 @@ sub-joins-2 c = search needs
 
 joins-requires : tie.Need-joins-requires
 joins-requires c κs =
-    let z = c .before .before .before .before .before .before .before in
+    let z = c .before .before .before .before .before .before .before .before in
     let a = all-is (c .before .before) in
     let g : 2 ≤ 2 ^ z .args .n = pow-mono {i = 1} {j = z .args .n} (omega arith) in
     let o : ones (c .before .before .before .subsets .result - 1) ≡ z .args .n = ap (λ (x : ℕ). ones (x - 1)) a ∙ ones-ones (z .args .n) in (
@@ -48,6 +48,7 @@ joins-requires c κs =
       omega (arith, a, c .before .before .place .ensures, length-take (c .before .before .place .result - 0) (z .args .table .now)),
       omega (arith, o),
       omega (arith, o),
+      omega (arith, a, z .pre .4),
     )
 
 same-length : tie.Need-same-length
@@ -55,9 +56,9 @@ same-length c = search needs
 
 returns : tie.Need-returns
 returns c =
-    let z = c .before .before .before .before .before .before .before .before .before .before in
+    let z = c .before .before .before .before .before .before .before .before .before .before .before in
     let p = c .before .before .before .before .before in
-    kept-written (widest (z .args .q)) (z .args .n) (p .place .result) (p .before .subsets .result) (z .args .table .now) (z .args .js .now) (c .before .before .joins .last .1 .1 .1 .1 .0)
+    kept-written (held (z .args .ds .now)) (z .args .n) (p .place .result) (p .before .subsets .result) (z .args .table .now) (z .args .js .now) (c .before .before .joins .last .1 .1 .1 .1 .0)
     (z .pre .0) (z .pre .1) (all-is p) (p .place .ensures) (z .pre .3) (c .before .before .joins .ensures .1)
 
 pub write-kept-spec : {M : Type 1} → statement M
