@@ -161,9 +161,28 @@ module _ (δ : ℕ → ℕ) (n budget : ℕ) (t₀ : List ℕ) where
             ∙ i .1,
       )
 
-  pub fill-end : (s left : ℕ) (t u : List ℕ) → 2 ^ n ≤ s → t₀ ≡ front (blanks n) u → Filling δ n budget t₀ s left t → (budget - left ≡ min budget (length (steps n))) × (t ≡ front (tableAfter δ n budget) u)
-  fill-end s left t u h e i = (
-    omega (arith, i .0, ap length (from-none n s h)),
-    ap (foldl (stepOf δ) t) (sym (take-nil left) ∙ ap (take left) (sym (from-none n s h))) ∙ i .1
-        ∙ ap (λ (l : List ℕ). foldl (stepOf δ) l (take budget (steps n))) e ∙ after-front δ n budget u,
-  )
+  pub fill-end : (s left : ℕ) (t : List ℕ) → 2 ^ n ≤ s → Filling δ n budget t₀ s left t → (budget - left ≡ min budget (length (steps n))) × (t ≡ foldl (stepOf δ) t₀ (take budget (steps n)))
+  fill-end s left t h i = (omega (arith, i .0, ap length (from-none n s h)), ap (foldl (stepOf δ) t) (sym (take-nil left) ∙ ap (take left) (sym (from-none n s h))) ∙ i .1)
+
+-- where the filling stands that counts nothing
+abbrev pub Filling-all : (ℕ → ℕ) → ℕ → List ℕ → ℕ → List ℕ → Type 0
+Filling-all δ n t₀ s t = foldl (stepOf δ) t (from n s) ≡ foldl (stepOf δ) t₀ (steps n)
+
+module _ (δ : ℕ → ℕ) (n : ℕ) (t₀ : List ℕ) where
+  pub all-start : Filling-all δ n t₀ 1 t₀
+  unfolding steps
+  all-start = refl
+
+  pub all-turn : (s : ℕ) (t t2 : List ℕ) → s < 2 ^ n → Filling-all δ n t₀ s t → t2 ≡ foldl (stepOf δ) t (map (pairUp s) (splits s)) → Filling-all δ n t₀ (s + 1) t2
+  all-turn s t t2 h i e =
+      ap (λ (l : List ℕ). foldl (stepOf δ) l (from n (s + 1))) e
+      ∙ sym (foldl-append (stepOf δ) t (map (pairUp s) (splits s)) (from n (s + 1)))
+      ∙ ap (foldl (stepOf δ) t) (sym (from-cons n s h))
+      ∙ i
+
+  pub all-end : (s : ℕ) (t : List ℕ) → 2 ^ n ≤ s → Filling-all δ n t₀ s t → t ≡ foldl (stepOf δ) t₀ (steps n)
+  all-end s t h i = ap (foldl (stepOf δ) t) (sym (from-none n s h)) ∙ i
+
+-- the blank table after the steps of a budget
+pub filled-is : (δ : ℕ → ℕ) (n budget : ℕ) (u t₀ t : List ℕ) → t₀ ≡ front (blanks n) u → t ≡ foldl (stepOf δ) t₀ (take budget (steps n)) → t ≡ front (tableAfter δ n budget) u
+filled-is δ n budget u t₀ t e f = f ∙ ap (λ (l : List ℕ). foldl (stepOf δ) l (take budget (steps n))) e ∙ after-front δ n budget u

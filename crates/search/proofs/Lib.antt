@@ -20,7 +20,7 @@ pub mod Agree
 pub mod Finished
 pub mod Bellman
 pub mod Recursion
-pub mod Pairs
+pub mod Fours
 pub mod FirstLeast
 pub mod Partway
 pub mod Entries

@@ -115,3 +115,8 @@ pub subset-is : (δ : ℕ → ℕ) (t : List ℕ) (s budget d p v : ℕ) → 0 <
 subset-is δ t s budget d p v h l ed ep ev =
     ap₂ (λ (x y : ℕ). set t x y) ep (ev ∙ ap (λ (x : ℕ). foldl (betterAt x t s) (getD t s 0) (take budget (splits s))) ed)
     ∙ sym (fold-set δ t s (take budget (splits s)) l (parts-take s budget (splits s) (parts-splits s h)))
+
+pub whole-is : (δ : ℕ → ℕ) (t : List ℕ) (s d p v : ℕ) → 0 < s → s < length t → d ≡ δ s → p ≡ s
+    → v ≡ foldl (betterAt d t s) (getD t s 0) (splits s) → set t p v ≡ foldl (stepOf δ) t (map (pairUp s) (splits s))
+whole-is δ t s d p v h l ed ep ev =
+    ap₂ (λ (x y : ℕ). set t x y) ep (ev ∙ ap (λ (x : ℕ). foldl (betterAt x t s) (getD t s 0) (splits s)) ed) ∙ sym (fold-set δ t s (splits s) l (parts-splits s h))

@@ -10,6 +10,7 @@ use lib.Seq.{getD-set-same, getD-set-other}
 use lib.Count.{trailingZeros}
 use Rattle.search.specs.Square.{Widths, entry, farthestOf, held, widest}
 use Rattle.search.specs.Subsets.{lowest, sinksIn}
+use Rattle.search.specs.Sums.{beyond}
 use Rattle.search.proofs.Digits.{low, low-even, low-le, low-odd, low-pos, parity, self-lt, tz-any, tz-even, tz-odd}
 use Rattle.search.proofs.Lowest.{beyond-lt, farthest-cons, farthest-zero, lowest-is, widest-cons, widest-zero}
 
@@ -37,10 +38,6 @@ same-low (suc d) s h k t = go (same-low d (s / 2)) (parity s)
         let e4 : low (suc d) (s - low (suc d) s) ≡ 2 * low d ((s - low (suc d) s) / 2) = low-even d (s - low (suc d) s) e2 in
         let l2 : low d ((s - low (suc d) s) / 2) ≤ (s - low (suc d) s) / 2 = low-le d ((s - low (suc d) s) / 2) (omega arith) (omega arith) in
         tz-odd d (s - low (suc d) (s - low (suc d) s)) (omega (arith, e4, l2)) ∙ sym (tz-odd d s o)
-
--- a subset without its lowest sink
-abbrev pub beyond : ℕ → ℕ
-beyond s = s - 2 ^ lowest s
 
 combine : (w f e g o u t : ℕ) → w ≡ max f t → f ≡ max e g → o ≡ max g u → u ≤ t → w ≡ max e (max t o)
 combine w f e g o u t a b c h = omega arith

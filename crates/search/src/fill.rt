@@ -6,16 +6,16 @@ ghost use lib.ListN.{length, take, getD};
 ghost use Rattle.lists.specs.Grow.{front};
 ghost use Rattle.search.specs.Subsets.{splits, lowest};
 ghost use Rattle.search.specs.Best.{stepCount, leastOf};
-ghost use Rattle.search.specs.Table.{stepOf, pairUp, betterAt, blanks, tableAfter};
+ghost use Rattle.search.specs.Table.{stepOf, steps, pairUp, betterAt, blanks, tableAfter};
 ghost use Rattle.search.specs.Square.{held};
-ghost use Rattle.search.specs.Sums.{sums};
+ghost use Rattle.search.specs.Sums.{Fourth, apart, sums, threeOf};
 use crate::square;
 use crate::subset;
 
 // What the two parts of a split of s come to: `other`, and the part that holds the lowest sink.
 fn parts(table: &[u32], s: u32, other: u32) -> u64
     requires { ⌜ (other ≤ s) × (s < length (now table)) ⌝ }
-    ensures { λ r. ⌜ (r < 2 ^ 33) × (r ≡ getD (now (table .entry)) (s - other) 0 + getD (now (table .entry)) other 0) ⌝ }
+    ensures { λ r. ⌜ (r < 2 ^ 33) × (r ≡ apart (now (table .entry)) s other) ⌝ }
 {
     subset::wide(table[subset::place(s - other)]) + subset::wide(table[subset::place(other)])
 }
@@ -28,27 +28,54 @@ pub fn cost(table: &[u32], d: u32, s: u32, other: u32) -> u64
     subset::wide(d) + parts(table, s, other)
 }
 
+// The smaller of two.
 fn smaller(x: u64, y: u64) -> u64
     ensures { λ r. ⌜ r ≡ min x y ⌝ }
 {
     if x < y { x } else { y }
 }
 
-// The least that the splits of s come to without its diameter, where `rest` is s without its lowest sink. They are met two by two: a part without the second sink, and the next one with it.
+// The least of three splits of s: `other` with two further sinks, with the third, and with the second.
+fn three(table: &[u32], s: u32, other: u32, second: u32, third: u32) -> u64
+    requires { ⌜ (other + third + second ≤ s) × (s < length (now table)) ⌝ }
+    ensures { λ r. ⌜ (r < 2 ^ 33) × (r ≡ threeOf (now (table .entry)) s other second third) ⌝ }
+{
+    smaller(
+        smaller(
+            parts(table, s, other + third + second),
+            parts(table, s, other + third),
+        ),
+        parts(table, s, other + second),
+    )
+}
+
+// The least of the splits of s without its diameter. They are met four by four, since going on to the next other part costs as much as examining it: each part of `last` with the second and
+// third sink, with either, and with neither.
+fn least_of_fours(table: &[u32], s: u32, second: u32, third: u32, last: u32) -> u64
+    requires { ⌜ (0 < s) × Fourth s second third last × (s < length (now table)) ⌝ }
+    ensures { λ r. ⌜ (r < 2 ^ 33) × (r ≡ leastOf (sums (now (table .entry)) s) (splits s)) ⌝ }
+{
+    let mut other = last;
+    let mut least = three(table, s, 0, second, third);
+    while other != 0 {
+        let with = three(table, s, other, second, third);
+        least = smaller(least, smaller(with, parts(table, s, other)));
+        other = (other - 1) & last;
+    }
+    least
+}
+
+// The same, where `rest` is s without its lowest sink.
 fn least_parts(table: &[u32], s: u32, rest: u32) -> u64
     requires { ⌜ (0 < s) × (rest ≡ s - 2 ^ lowest s) × (0 < rest) × (s < length (now table)) ⌝ }
     ensures { λ r. ⌜ (r < 2 ^ 33) × (r ≡ leastOf (sums (now (table .entry)) s) (splits s)) ⌝ }
 {
     let more = subset::beyond(rest);
-    let second = rest - more;
-    let mut other = more;
-    let mut least = parts(table, s, rest);
-    while other != 0 {
-        let without = parts(table, s, other);
-        other = (other - 1) & more;
-        least = smaller(least, smaller(without, parts(table, s, other + second)));
+    if more == 0 {
+        return parts(table, s, rest);
     }
-    least
+    let last = subset::beyond(more);
+    least_of_fours(table, s, rest - more, more - last, last)
 }
 
 // Examines all splits of s, where d is its diameter.
@@ -134,25 +161,61 @@ fn clear(table: &mut [u32], n: u32)
 {
     let size = subset::subsets(n);
     let mut s: u32 = 0;
-    while s < size {
+    while s != size {
         table[subset::place(s)] = subset::blank(s);
         s += 1;
     }
 }
 
-// Takes at most `budget` steps, where ds are the diameters, the subsets of n sinks in rising order, and returns how many.
+// Takes all steps of s.
+fn fill_whole(ds: &[u32], table: &mut [u32], s: u32)
+    requires { ⌜ (0 < s) × (s < length (now table)) × (s < length (now ds)) ⌝ }
+    ensures { λ _. ⌜ now (table .exit) ≡ foldl (stepOf (held (now (ds .entry)))) (now (table .entry)) (map (pairUp s) (splits s)) ⌝ }
+{
+    let least = examine_all(table, square::diameter(ds, s), s);
+    table[subset::place(s)] = least;
+}
+
+// Takes all steps, the subsets of n sinks in rising order, and counts none.
+fn fill_all(ds: &[u32], table: &mut [u32], n: u32)
+    requires { ⌜ (n ≤ 12) × (2 ^ n ≤ length (now table)) × (2 ^ n ≤ length (now ds)) ⌝ }
+    ensures { λ _. ⌜ now (table .exit) ≡ foldl (stepOf (held (now (ds .entry)))) (now (table .entry)) (steps n) ⌝ }
+{
+    let size = subset::subsets(n);
+    let mut s: u32 = 1;
+    while s != size {
+        fill_whole(ds, table, s);
+        s += 1;
+    }
+}
+
+// Takes at most `budget` steps, the subsets of n sinks in rising order, and returns how many.
+fn fill_some(ds: &[u32], table: &mut [u32], n: u32, budget: u64) -> u64
+    requires { ⌜ (n ≤ 12) × (2 ^ n ≤ length (now table)) × (2 ^ n ≤ length (now ds)) ⌝ }
+    ensures { λ r. ⌜ r ≡ min budget (stepCount n) ⌝ }
+    ensures { λ _. ⌜ now (table .exit) ≡ foldl (stepOf (held (now (ds .entry)))) (now (table .entry)) (take budget (steps n)) ⌝ }
+{
+    let size = subset::subsets(n);
+    let mut left = budget;
+    let mut s: u32 = 1;
+    while s != size {
+        left = fill_subset(ds, table, s, left);
+        s += 1;
+    }
+    budget - left
+}
+
+// Takes at most `budget` steps on a blank table of the subsets of n sinks, where ds are their diameters, and returns how many.
 pub fn fill(ds: &[u32], table: &mut [u32], n: u32, budget: u64) -> u64
     requires { ⌜ (n ≤ 12) × (2 ^ n ≤ length (now table)) × (2 ^ n ≤ length (now ds)) ⌝ }
     ensures { λ r. ⌜ r ≡ min budget (stepCount n) ⌝ }
     ensures { λ _. ⌜ now (table .exit) ≡ front (tableAfter (held (now (ds .entry))) n budget) (now (table .entry)) ⌝ }
 {
     clear(table, n);
-    let size = subset::subsets(n);
-    let mut left = budget;
-    let mut s: u32 = 1;
-    while s < size {
-        left = fill_subset(ds, table, s, left);
-        s += 1;
+    let all = subset::all_steps(subset::place(n));
+    if budget < all {
+        return fill_some(ds, table, n, budget);
     }
-    budget - left
+    fill_all(ds, table, n);
+    all
 }

@@ -82,7 +82,7 @@ pub fn diameters(q: [[u32; 12]; 12], ds: &mut [u32], n: u32)
     let size = subset::subsets(n);
     let mut s: u32 = 1;
     ds[0] = 0;
-    while s < size {
+    while s != size {
         let rest = subset::beyond(s);
         let mut d: u32 = 0;
         if rest != 0 {

@@ -43,7 +43,7 @@ pub fn sinks(n: usize) -> u32
     n as u32
 }
 
-// How many subsets n sinks have.
+// How many subsets n sinks have. (Loops over all of them end at `s != size`: of `s < 1 << n` the compiler makes a shift for each turn.)
 pub fn subsets(n: u32) -> u32
     requires { ⌜ n ≤ 12 ⌝ }
     ensures { λ r. ⌜ (r ≡ 2 ^ n) × (0 < r) × (r ≤ 4096) ⌝ }

@@ -6,8 +6,8 @@ use native.Mathlib.Omega.{arith}
 use lib.ListN.{getD}
 use Rattle.search.specs.Subsets.{splits}
 use Rattle.search.specs.Table.{betterAt}
-use Rattle.search.proofs.Pairs.{all-least, all-none}
-use Rattle.search.proofs.Widths.{beyond}
+use Rattle.search.proofs.Fours.{all-least, all-none}
+use Rattle.search.specs.Sums.{beyond}
 use borrow.Author.Needs.{needs}
 use Rattle.search.proofs.fill.examine_all.Statement.{statement}
 use Rattle.search.proofs.fill.examine_all.Tie as tie
