@@ -8,7 +8,7 @@ use lib.Dec.{ltb}
 use lib.Count.{ones}
 use lib.ListN.{getD, set, take}
 use borrow.Author.Tests.{ltb-false}
-use Rattle.zero_skew.specs.Order.{Order, one, both}
+use Rattle.zero_skew.specs.Order.{one, both}
 use Rattle.search.specs.Subsets.{lowest, splits}
 use Rattle.search.specs.Table.{blanks, stepOf, steps, tableAfter}
 use Rattle.search.specs.Kept.{firstOr, keptIn, keptPart}

@@ -1,14 +1,14 @@
 -- The splits of a subset four by four: each other part without its second and third sink, with either, and with both.
-use mathlib.Core.Path.{_≡_, refl, sym, ap, ap₂, subst, subst₂, _∙_}
+use mathlib.Core.Path.{_≡_, sym, ap, ap₂, subst, subst₂, _∙_}
 use mathlib.Core.Logic.{_⊎_, inl, inr}
-use mathlib.Core.List.{List, [], _∷_, foldl}
+use mathlib.Core.List.{List, _∷_, foldl}
 use Prim.Native.Nat.{ℕ, zero, suc, _+_, _-_, _*_, _/_, _%_, _^_, _≤_, _<_, min}
 use native.Mathlib.Omega.{arith}
-use lib.Bits.{bitAnd, and-le-l, and-self, and-step}
+use lib.Bits.{bitAnd, and-self, and-step}
 use lib.ListN.{getD}
 use Rattle.search.specs.Best.{leastOf}
 use Rattle.search.specs.Subsets.{lowest, splits}
-use Rattle.search.specs.Sums.{Fourth, apart, beyond, sums, threeOf}
+use Rattle.search.specs.Sums.{Leading, apart, beyond, sums, threeOf}
 use Rattle.search.specs.Table.{betterAt}
 use Rattle.search.proofs.Digits.{Sub, low, low-even, low-le, low-odd, low-pos, parity, self-lt, sub-and, sub-digit, sub-half, sub-join, sub-le}
 use Rattle.search.proofs.Lowest.{beyond-lt}
@@ -181,7 +181,7 @@ min-first k b p h e = omega arith
 min-last : (k b c p l : ℕ) → b < k → b ≡ min c p → min c p ≡ min k l → b ≡ l
 min-last k b c p l h e f = omega arith
 
-module _ (t : List ℕ) (s second third last : ℕ) (pos : 0 < s) (f : Fourth s second third last) where
+module _ (t : List ℕ) (s second third last : ℕ) (pos : 0 < s) (f : Leading s second third last) where
   -- the other parts are no larger than s
   pub fours-inside : (y : ℕ) → Sub y (beyond (beyond (beyond s))) → y + third + second ≤ s
   fours-inside y u =
@@ -243,8 +243,8 @@ module _ (t : List ℕ) (s second third last : ℕ) (pos : 0 < s) (f : Fourth s 
       min-last (2 ^ 33) b c (threeOf t s 0 second third) (leastOf (sums t s) (splits s)) (i .1) (i .2 .1) g
 
 -- what the code calls `rest`, `more` and `last`
-pub fourth : (s rest more last : ℕ) → rest ≡ beyond s → 0 < rest → more ≡ beyond rest → 0 < more → last ≡ beyond more → Fourth s (rest - more) (more - last) last
-fourth s rest more last er hr em hm el =
+pub leading : (s rest more last : ℕ) → rest ≡ beyond s → 0 < rest → more ≡ beyond rest → 0 < more → last ≡ beyond more → Leading s (rest - more) (more - last) last
+leading s rest more last er hr em hm el =
     let e : more ≡ beyond (beyond s) = em ∙ ap beyond er in
     let h : 0 < beyond s = omega (arith, er) in
     let k : 0 < beyond (beyond s) = omega (arith, e) in

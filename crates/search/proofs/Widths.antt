@@ -1,5 +1,5 @@
 -- The diameters of all subsets, each from those of smaller ones.
-use mathlib.Core.Path.{_≡_, refl, sym, ap, ap₂, _∙_}
+use mathlib.Core.Path.{_≡_, sym, ap, ap₂, _∙_}
 use mathlib.Core.Logic.{_≢_, _⊎_, inl, inr}
 use mathlib.Core.List.{List, []}
 use Prim.Native.Nat.{ℕ, zero, suc, _+_, _-_, _*_, _/_, _%_, _^_, _≤_, _<_, max}
@@ -11,7 +11,7 @@ use lib.Count.{trailingZeros}
 use Rattle.search.specs.Square.{Widths, entry, farthestOf, held, widest}
 use Rattle.search.specs.Subsets.{lowest, sinksIn}
 use Rattle.search.specs.Sums.{beyond}
-use Rattle.search.proofs.Digits.{low, low-even, low-le, low-odd, low-pos, parity, self-lt, tz-any, tz-even, tz-odd}
+use Rattle.search.proofs.Digits.{low, low-even, low-le, low-odd, low-pos, parity, self-lt, tz-even, tz-odd}
 use Rattle.search.proofs.Lowest.{beyond-lt, farthest-cons, farthest-zero, lowest-is, widest-cons, widest-zero}
 
 -- without its second sink, a subset has the same lowest

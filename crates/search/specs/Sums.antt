@@ -22,7 +22,7 @@ abbrev pub beyond : ℕ → ℕ
 beyond m = m - 2 ^ lowest m
 
 -- a subset of three sinks or more: its second and third sink alone, and what is left without its first three
-pub record Fourth (m second third last : ℕ) : Type 0 where
+pub record Leading (m second third last : ℕ) : Type 0 where
   pub some : 0 < beyond m
   pub more : 0 < beyond (beyond m)
   pub is-second : second ≡ 2 ^ lowest (beyond m)

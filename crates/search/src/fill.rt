@@ -8,7 +8,7 @@ ghost use Rattle.search.specs.Subsets.{splits, lowest};
 ghost use Rattle.search.specs.Best.{stepCount, leastOf};
 ghost use Rattle.search.specs.Table.{stepOf, steps, pairUp, betterAt, blanks, tableAfter};
 ghost use Rattle.search.specs.Square.{held};
-ghost use Rattle.search.specs.Sums.{Fourth, apart, sums, threeOf};
+ghost use Rattle.search.specs.Sums.{Leading, apart, sums, threeOf};
 use crate::square;
 use crate::subset;
 
@@ -35,7 +35,7 @@ fn smaller(x: u64, y: u64) -> u64
     if x < y { x } else { y }
 }
 
-// The least of three splits of s: `other` with two further sinks, with the third, and with the second.
+// The least that three splits of s come to: those of `other` with both its second and third sink, with the third, and with the second.
 fn three(table: &[u32], s: u32, other: u32, second: u32, third: u32) -> u64
     requires { ⌜ (other + third + second ≤ s) × (s < length (now table)) ⌝ }
     ensures { λ r. ⌜ (r < 2 ^ 33) × (r ≡ threeOf (now (table .entry)) s other second third) ⌝ }
@@ -49,10 +49,10 @@ fn three(table: &[u32], s: u32, other: u32, second: u32, third: u32) -> u64
     )
 }
 
-// The least of the splits of s without its diameter. They are met four by four, since going on to the next other part costs as much as examining it: each part of `last` with the second and
-// third sink, with either, and with neither.
+// The least that the splits of s come to without its diameter, where `last` is s without its first three sinks. They are met four by four, so that the turn to the next part of `last` is paid
+// once for four: with the second and third sink, with either, and with neither.
 fn least_of_fours(table: &[u32], s: u32, second: u32, third: u32, last: u32) -> u64
-    requires { ⌜ (0 < s) × Fourth s second third last × (s < length (now table)) ⌝ }
+    requires { ⌜ (0 < s) × Leading s second third last × (s < length (now table)) ⌝ }
     ensures { λ r. ⌜ (r < 2 ^ 33) × (r ≡ leastOf (sums (now (table .entry)) s) (splits s)) ⌝ }
 {
     let mut other = last;
@@ -65,7 +65,7 @@ fn least_of_fours(table: &[u32], s: u32, second: u32, third: u32, last: u32) -> 
     least
 }
 
-// The same, where `rest` is s without its lowest sink.
+// The same for a subset of two or more, where `rest` is s without its lowest sink.
 fn least_parts(table: &[u32], s: u32, rest: u32) -> u64
     requires { ⌜ (0 < s) × (rest ≡ s - 2 ^ lowest s) × (0 < rest) × (s < length (now table)) ⌝ }
     ensures { λ r. ⌜ (r < 2 ^ 33) × (r ≡ leastOf (sums (now (table .entry)) s) (splits s)) ⌝ }

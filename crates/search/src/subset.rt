@@ -12,7 +12,7 @@ pub fn wide(x: u32) -> u64
     x as u64
 }
 
-// A subset's place in the table.
+// A subset's place in the table, or a number of sinks as a place.
 pub fn place(s: u32) -> usize
     ensures { λ r. ⌜ r ≡ s ⌝ }
 {
@@ -43,7 +43,7 @@ pub fn sinks(n: usize) -> u32
     n as u32
 }
 
-// How many subsets n sinks have. (Loops over all of them end at `s != size`: of `s < 1 << n` the compiler makes a shift for each turn.)
+// How many subsets n sinks have. A loop over them asks `s != size`, since of `s < size` the compiler makes a shift in every turn.
 pub fn subsets(n: u32) -> u32
     requires { ⌜ n ≤ 12 ⌝ }
     ensures { λ r. ⌜ (r ≡ 2 ^ n) × (0 < r) × (r ≤ 4096) ⌝ }

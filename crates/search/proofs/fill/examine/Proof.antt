@@ -1,6 +1,6 @@
 -- `search::examine` meets its contract.
-use mathlib.Core.Path.{_≡_, sym, ap, _∙_}
-use mathlib.Core.List.{List, foldl}
+use mathlib.Core.Path.{sym, ap, _∙_}
+use mathlib.Core.List.{foldl}
 use Prim.Native.Nat.{ℕ, _≤_, _-_}
 use native.Mathlib.Omega.{arith}
 use lib.ListN.{getD, length}

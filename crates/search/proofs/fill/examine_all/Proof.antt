@@ -1,11 +1,8 @@
 -- `search::examine_all` meets its contract.
 use mathlib.Core.Path.{_≡_, sym, ap, _∙_}
-use mathlib.Core.List.{foldl}
-use Prim.Native.Nat.{ℕ, _<_, min}
+use Prim.Native.Nat.{ℕ, _<_}
 use native.Mathlib.Omega.{arith}
 use lib.ListN.{getD}
-use Rattle.search.specs.Subsets.{splits}
-use Rattle.search.specs.Table.{betterAt}
 use Rattle.search.proofs.Fours.{all-least, all-none}
 use Rattle.search.specs.Sums.{beyond}
 use borrow.Author.Needs.{needs}

@@ -1,9 +1,9 @@
 -- `search::least_parts` meets its contract.
 use mathlib.Core.Path.{_≡_, sym, ap, _∙_}
-use Prim.Native.Nat.{ℕ, _≤_, _<_}
+use Prim.Native.Nat.{_<_}
 use native.Mathlib.Omega.{arith}
 use Rattle.search.specs.Sums.{apart, beyond}
-use Rattle.search.proofs.Fours.{fourth, one-split}
+use Rattle.search.proofs.Fours.{leading, one-split}
 use Rattle.search.proofs.Lowest.{beyond-lt}
 use Rattle.search.proofs.fill.least_parts.Statement.{statement}
 use Rattle.search.proofs.fill.least_parts.Tie as tie
@@ -33,7 +33,7 @@ sub-least-of-fours-2 c = omega (arith, c .beyond2 .ensures)
 least-of-fours-requires : tie.Need-least-of-fours-requires
 least-of-fours-requires c κs =
     let h : 0 < c .before .before .beyond .result = omega arith in
-    (c .before .before .before .before .pre .0, fourth (c .before .before .before .before .args .s) (c .before .before .before .before .args .rest) (c .before .before .beyond .result) (c .beyond2 .result) (c .before .before .before .before .pre .1) (c .before .before .before .before .pre .2) (c .before .before .beyond .ensures) h (c .beyond2 .ensures), c .before .before .before .before .pre .3)
+    (c .before .before .before .before .pre .0, leading (c .before .before .before .before .args .s) (c .before .before .before .before .args .rest) (c .before .before .beyond .result) (c .beyond2 .result) (c .before .before .before .before .pre .1) (c .before .before .before .before .pre .2) (c .before .before .beyond .ensures) h (c .beyond2 .ensures), c .before .before .before .before .pre .3)
 
 returns-2 : tie.Need-returns-2
 returns-2 c = c .least-of-fours .ensures

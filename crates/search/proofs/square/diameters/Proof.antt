@@ -1,10 +1,9 @@
 -- `search::diameters` meets its contract. The loop's invariant: the diameters of the subsets below s are in ds.
-use mathlib.Core.Path.{_≡_, refl, sym, ap, _∙_}
+use mathlib.Core.Path.{_≡_, refl, sym, _∙_}
 use mathlib.Core.Logic.{⊎-elim}
-use Prim.Native.Nat.{ℕ, _≤_, _<_, _-_, _^_}
+use Prim.Native.Nat.{_≤_, _<_, _-_, _^_}
 use native.Mathlib.Omega.{arith}
 use lib.ListN.{length, length-set}
-use lib.Pow.{pow-pos}
 use borrow.Author.Needs.{needs}
 use Rattle.search.specs.Square.{Widths, widest}
 use Rattle.search.proofs.Lowest.{beyond-lt, lowest-lt}

@@ -1,6 +1,6 @@
 -- `search::spread` meets its contract.
 use mathlib.Core.Path.{_≡_, ap, ap₂, _∙_}
-use Prim.Native.Nat.{ℕ, _≤_, _-_, _^_, max}
+use Prim.Native.Nat.{_≤_, _-_, _^_, max}
 use native.Mathlib.Omega.{arith}
 use Rattle.search.specs.Square.{held}
 use Rattle.search.specs.Subsets.{lowest}

@@ -1,11 +1,9 @@
 -- `search::split_count` meets its contract.
-use Prim.Native.Nat.{ℕ, _≤_, _<_, _*_, _-_, _^_, suc}
+use Prim.Native.Nat.{ℕ, _*_, _-_, _^_, suc}
 use mathlib.Core.Path.{_≡_, ap, _∙_}
 use native.Mathlib.Nat.{pow-succ'}
 use native.Mathlib.Omega.{arith}
 use lib.Count.{ones, ones-le}
-use lib.ListN.{length}
-use Rattle.search.specs.Subsets.{splits}
 use Rattle.search.proofs.KeptParts.{ones-pos}
 use Rattle.search.proofs.Splits.{splits-count}
 use borrow.Author.Needs.{needs}
