@@ -109,14 +109,7 @@ module _ (d : ℕ) (t : List ℕ) (s : ℕ) (pos : 0 < s) (budget : ℕ) where
     ap (λ (x : ℕ). foldl (betterAt d t s) best (take x (down s other))) (sym e) ∙ i .2,
   )
 
--- the steps of s that a budget allows, on the table
-pub subset-is : (δ : ℕ → ℕ) (t : List ℕ) (s budget d p v : ℕ) → 0 < s → s < length t → d ≡ δ s → p ≡ s
-    → v ≡ foldl (betterAt d t s) (getD t s 0) (take budget (splits s)) → set t p v ≡ foldl (stepOf δ) t (map (pairUp s) (take budget (splits s)))
-subset-is δ t s budget d p v h l ed ep ev =
-    ap₂ (λ (x y : ℕ). set t x y) ep (ev ∙ ap (λ (x : ℕ). foldl (betterAt x t s) (getD t s 0) (take budget (splits s))) ed)
-    ∙ sym (fold-set δ t s (take budget (splits s)) l (parts-take s budget (splits s) (parts-splits s h)))
-
-pub whole-is : (δ : ℕ → ℕ) (t : List ℕ) (s d p v : ℕ) → 0 < s → s < length t → d ≡ δ s → p ≡ s
-    → v ≡ foldl (betterAt d t s) (getD t s 0) (splits s) → set t p v ≡ foldl (stepOf δ) t (map (pairUp s) (splits s))
-whole-is δ t s d p v h l ed ep ev =
-    ap₂ (λ (x y : ℕ). set t x y) ep (ev ∙ ap (λ (x : ℕ). foldl (betterAt x t s) (getD t s 0) (splits s)) ed) ∙ sym (fold-set δ t s (splits s) l (parts-splits s h))
+-- the steps of s into the parts of l, on the table
+pub subset-is : (δ : ℕ → ℕ) (t : List ℕ) (s d p v : ℕ) (l : List ℕ) → Parts s l → s < length t → d ≡ δ s → p ≡ s
+    → v ≡ foldl (betterAt d t s) (getD t s 0) l → set t p v ≡ foldl (stepOf δ) t (map (pairUp s) l)
+subset-is δ t s d p v l h k ed ep ev = ap₂ (λ (x y : ℕ). set t x y) ep (ev ∙ ap (λ (x : ℕ). foldl (betterAt x t s) (getD t s 0) l) ed) ∙ sym (fold-set δ t s l k h)

@@ -1,7 +1,9 @@
 -- `search::fill_subset` meets its contract.
 use borrow.Author.Needs.{needs}
+use lib.ListN.{take}
 use Rattle.search.specs.Square.{held}
-use Rattle.search.proofs.Scan.{subset-is}
+use Rattle.search.specs.Subsets.{splits}
+use Rattle.search.proofs.Scan.{parts-splits, parts-take, subset-is}
 use Rattle.search.proofs.fill.fill_subset.Statement.{statement}
 use Rattle.search.proofs.fill.fill_subset.Tie as tie
 
@@ -28,8 +30,8 @@ returns c =
     let z = c .before .before .before .before .before .before in
     let f = c .before .examine in (
       f .ensures .0,
-      subset-is (held (z .args .ds .now)) (z .args .table .now) (z .args .s) (z .args .budget) (c .before .before .diameter .result) (c .place .result) (f .result .least)
-          (z .pre .0) (z .pre .2) (c .before .before .diameter .ensures) (c .place .ensures) (f .ensures .1),
+      subset-is (held (z .args .ds .now)) (z .args .table .now) (z .args .s) (c .before .before .diameter .result) (c .place .result) (f .result .least) (take (z .args .budget) (splits (z .args .s)))
+          (parts-take (z .args .s) (z .args .budget) (splits (z .args .s)) (parts-splits (z .args .s) (z .pre .0))) (z .pre .2) (c .before .before .diameter .ensures) (c .place .ensures) (f .ensures .1),
     )
 
 pub fill-subset-spec : {M : Type 1} → statement M

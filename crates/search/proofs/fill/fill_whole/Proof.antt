@@ -1,7 +1,8 @@
 -- `search::fill_whole` meets its contract.
 use borrow.Author.Needs.{needs}
 use Rattle.search.specs.Square.{held}
-use Rattle.search.proofs.Scan.{whole-is}
+use Rattle.search.specs.Subsets.{splits}
+use Rattle.search.proofs.Scan.{parts-splits, subset-is}
 use Rattle.search.proofs.fill.fill_whole.Statement.{statement}
 use Rattle.search.proofs.fill.fill_whole.Tie as tie
 
@@ -25,8 +26,9 @@ same-length c = search needs
 
 returns : tie.Need-returns
 returns c =
-    let a = c .before .before .before .before .before .before .args in
-    whole-is (held (a .ds .now)) (a .table .now) (a .s) (c .before .before .diameter .result) (c .place .result) (c .before .examine-all .result) (c .before .before .before .before .before .before .pre .0) (c .before .before .before .before .before .before .pre .1) (c .before .before .diameter .ensures) (c .place .ensures) (c .before .examine-all .ensures)
+    let z = c .before .before .before .before .before .before in
+    subset-is (held (z .args .ds .now)) (z .args .table .now) (z .args .s) (c .before .before .diameter .result) (c .place .result) (c .before .examine-all .result) (splits (z .args .s))
+    (parts-splits (z .args .s) (z .pre .0)) (z .pre .1) (c .before .before .diameter .ensures) (c .place .ensures) (c .before .examine-all .ensures)
 
 pub fill-whole-spec : {M : Type 1} → statement M
 fill-whole-spec = tie.close (tie.spec diameter-requires examine-all-requires place-requires mul-table slice-write-table same-length returns)
