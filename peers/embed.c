@@ -1,0 +1,65 @@
+/*
+ * The embedding of a joining order, tuned for few passes over few bytes.
+ *
+ * A box is four numbers side by side, the least ones negated, so that the
+ * hull is four times the greater of two: one vector instruction. One pass up
+ * makes boxes and diameters and checks the order; one pass down gives each
+ * join's two children their places and wires, so no parents are kept.
+ */
+#include "peers.h"
+
+typedef struct {
+    int32_t end[4]; /* -least u, greatest u, -least v, greatest v */
+} Box;
+
+static inline int32_t greater(int32_t a, int32_t b) { return a > b ? a : b; }
+static inline int32_t lesser(int32_t a, int32_t b) { return a < b ? a : b; }
+
+/* The value nearest to `to` of a node's range on the axis of two ends. */
+static inline int32_t nearest(const int32_t *end, int32_t d, int32_t to)
+{
+    return lesser(greater(to, 2 * end[1] - d), d - 2 * end[0]);
+}
+
+uint64_t peer_embed(const int32_t *x, const int32_t *y, size_t n, const uint16_t *joins,
+                    int32_t *u, int32_t *v, uint32_t *wires)
+{
+    Box boxes[1023];
+    int32_t d[1023];
+    uint8_t named[1023] = {0};
+    uint32_t total = 0;
+    if (!peer_in_range(x, y, n))
+        return PEER_REFUSED;
+    for (size_t i = 0; i < n; i++) {
+        int32_t su = x[i] + y[i], sv = x[i] - y[i];
+        boxes[i] = (Box){{-su, su, -sv, sv}};
+        d[i] = 0;
+    }
+    for (size_t i = n; i < 2 * n - 1; i++) {
+        size_t a = joins[2 * (i - n)], b = joins[2 * (i - n) + 1];
+        if (a >= i || b >= i || a == b || named[a] | named[b])
+            return PEER_REFUSED;
+        named[a] = named[b] = 1;
+        Box box;
+        for (int k = 0; k < 4; k++)
+            box.end[k] = greater(boxes[a].end[k], boxes[b].end[k]);
+        boxes[i] = box;
+        d[i] = greater(box.end[0] + box.end[1], box.end[2] + box.end[3]);
+        total += (uint32_t)d[i];
+    }
+
+    size_t root = 2 * n - 2;
+    u[root] = 2 * boxes[root].end[1] - d[root];
+    v[root] = 2 * boxes[root].end[3] - d[root];
+    wires[root] = 0;
+    for (size_t i = root; i >= n; i--) {
+        const int32_t pu = u[i], pv = v[i], pd = d[i];
+        for (int k = 0; k < 2; k++) {
+            size_t child = joins[2 * (i - n) + (size_t)k];
+            u[child] = nearest(boxes[child].end, d[child], pu);
+            v[child] = nearest(boxes[child].end + 2, d[child], pv);
+            wires[child] = (uint32_t)(pd - d[child]);
+        }
+    }
+    return total + (uint32_t)d[root];
+}
