@@ -54,10 +54,21 @@ pub enum SinkKind {
     Clustered,
     /// On one line, level, upright or tilted.
     Collinear,
+    /// On such a line at equal steps: most diameters tie.
+    EvenLine,
     /// At least one coordinate at ±1,000,000, corners often.
     Extreme,
     /// One on each place of a regular grid: most diameters tie.
     Regular,
+    /// In small clusters, two and two of them close together.
+    ClusterPairs,
+    /// Half of them (at most 128) far out and far from one another, the later
+    /// ones farther; the rest crowded on one place in the middle. Joining by
+    /// least diameter joins the crowd first, by number alone. Each of the far
+    /// ones has the same best partner all that time, the lowest node of the
+    /// crowd, and each join takes just that node away: who keeps partners and
+    /// seeks another as soon as one is gone does it for all of them.
+    SharedPartner,
     /// All on one place.
     OnePlace,
     /// On up to four places.
@@ -72,23 +83,37 @@ pub enum SinkKind {
 
 impl SinkKind {
     /// The kinds that are accepted, first those of distinct places.
-    pub const GOOD: [SinkKind; 9] = [
+    pub const GOOD: [SinkKind; 12] = [
         SinkKind::Uniform,
         SinkKind::Clustered,
         SinkKind::Collinear,
+        SinkKind::EvenLine,
         SinkKind::Extreme,
         SinkKind::Regular,
+        SinkKind::ClusterPairs,
+        SinkKind::SharedPartner,
         SinkKind::OnePlace,
         SinkKind::FewPlaces,
         SinkKind::Coinciding,
         SinkKind::Coarse,
     ];
     /// The kinds that are accepted and have several pins on a place.
-    pub const SHARING: [SinkKind; 4] = [
+    pub const SHARING: [SinkKind; 5] = [
+        SinkKind::SharedPartner,
         SinkKind::OnePlace,
         SinkKind::FewPlaces,
         SinkKind::Coinciding,
         SinkKind::Coarse,
+    ];
+    /// The kinds made to be hard for joining by least diameter: by ties, or
+    /// by how often a best partner is gone.
+    pub const HARD: [SinkKind; 6] = [
+        SinkKind::OnePlace,
+        SinkKind::EvenLine,
+        SinkKind::Collinear,
+        SinkKind::Regular,
+        SinkKind::ClusterPairs,
+        SinkKind::SharedPartner,
     ];
 }
 
@@ -98,8 +123,11 @@ pub fn sinks(random: &mut Random, kind: SinkKind, n: usize) -> (Vec<i32>, Vec<i3
         SinkKind::Uniform => distinct(random, n, uniform_sink),
         SinkKind::Clustered => clustered(random, n),
         SinkKind::Collinear => collinear(random, n),
+        SinkKind::EvenLine => even_line(random, n),
         SinkKind::Extreme => distinct(random, n, extreme_sink),
         SinkKind::Regular => regular(random, n),
+        SinkKind::ClusterPairs => cluster_pairs(random, n),
+        SinkKind::SharedPartner => shared_partner(random, n),
         SinkKind::OnePlace => on_places(random, n, 1),
         SinkKind::FewPlaces => {
             let places = 2 + random.below(3);
@@ -165,8 +193,11 @@ fn clustered(random: &mut Random, n: usize) -> (Vec<i32>, Vec<i32>) {
     })
 }
 
+/// Steps along the lines that sinks are put on.
+const DIRECTIONS: [(i32, i32); 6] = [(1, 0), (0, 1), (1, 1), (1, -1), (2, 1), (-1, 3)];
+
 fn collinear(random: &mut Random, n: usize) -> (Vec<i32>, Vec<i32>) {
-    let (dx, dy) = random.pick(&[(1, 0), (0, 1), (1, 1), (1, -1), (2, 1), (-1, 3)]);
+    let (dx, dy) = random.pick(&DIRECTIONS);
     let x = random.between(-REACH / 4, REACH / 4);
     let y = random.between(-REACH / 4, REACH / 4);
     let reach = random.pick(&[2 * n as i32 + 1, REACH / 4]);
@@ -176,8 +207,31 @@ fn collinear(random: &mut Random, n: usize) -> (Vec<i32>, Vec<i32>) {
     })
 }
 
-/// Numbered row by row, or in any order, so that equal diameters come from
-/// low and high numbers alike.
+fn even_line(random: &mut Random, n: usize) -> (Vec<i32>, Vec<i32>) {
+    let (dx, dy) = random.pick(&DIRECTIONS);
+    let step = random.pick(&[1, 2, 700]);
+    let x = random.between(-REACH / 4, REACH / 4);
+    let y = random.between(-REACH / 4, REACH / 4);
+    let place = |at: usize| {
+        let along = step * (at as i32 - n as i32 / 2);
+        (x + dx * along, y + dy * along)
+    };
+    numbering(random, n).into_iter().map(place).unzip()
+}
+
+/// The numbers below `n` as they are or in any order, so that equal diameters
+/// come from low and high numbers alike.
+fn numbering(random: &mut Random, n: usize) -> Vec<usize> {
+    let mut numbers: Vec<usize> = (0..n).collect();
+    if random.below(2) == 0 {
+        for at in 1..n {
+            numbers.swap(at, random.below(at + 1));
+        }
+    }
+    numbers
+}
+
+/// Numbered row by row, or in any order.
 fn regular(random: &mut Random, n: usize) -> (Vec<i32>, Vec<i32>) {
     let side = (1..).find(|side| side * side >= n).unwrap_or(n);
     let columns = side * random.pick(&[1, 2]);
@@ -185,17 +239,62 @@ fn regular(random: &mut Random, n: usize) -> (Vec<i32>, Vec<i32>) {
     let up = across * random.pick(&[1, 3]);
     let left = random.between(-REACH, REACH - across * columns as i32);
     let low = random.between(-REACH, REACH - up * side as i32);
-    let mut cells: Vec<usize> = (0..n).collect();
-    if random.below(2) == 0 {
-        for at in 1..n {
-            cells.swap(at, random.below(at + 1));
-        }
-    }
     let place = |cell: usize| {
         let (row, column) = ((cell / columns) as i32, (cell % columns) as i32);
         (left + across * column, low + up * row)
     };
-    cells.into_iter().map(place).unzip()
+    numbering(random, n).into_iter().map(place).unzip()
+}
+
+/// About four sinks to a cluster of five by five places, and one pair of
+/// clusters to eight sinks.
+fn cluster_pairs(random: &mut Random, n: usize) -> (Vec<i32>, Vec<i32>) {
+    let inside = REACH - APART - CLUSTER;
+    let corner = |random: &mut Random| random.between(-inside, inside);
+    let corners: Vec<(i32, i32)> = (0..n / 8 + 1)
+        .map(|_| (corner(random), corner(random)))
+        .collect();
+    distinct(random, n, |random| {
+        let (x, y) = random.pick(&corners);
+        let (across, up) = random.pick(&[(0, 0), (APART, 0)]);
+        (
+            x + across + random.between(0, CLUSTER - 1),
+            y + up + random.between(0, CLUSTER - 1),
+        )
+    })
+}
+
+/// The side of a cluster, and how far the two of a pair are apart.
+const CLUSTER: i32 = 5;
+const APART: i32 = 60;
+
+/// The far sinks stand on rings around the crowd, eight on each, in tilted
+/// coordinates on the middles of the sides and on the corners of a square.
+/// Each is a little farther out than the one before, and a ring more than
+/// twice as far as the one before: so each is farther from all later ones
+/// than from the crowd.
+fn shared_partner(random: &mut Random, n: usize) -> (Vec<i32>, Vec<i32>) {
+    let far = (n / 2).min(128);
+    let mut places = Vec::new();
+    let mut ring = 1;
+    while places.len() < far {
+        // In the plane a middle stands on a diagonal, a corner on an axis.
+        for (at, (dx, dy)) in [(1, 1), (1, -1), (-1, -1), (-1, 1)].into_iter().enumerate() {
+            let out = ring + at as i32;
+            places.push((dx * out, dy * out));
+        }
+        for (at, (dx, dy)) in [(1, 0), (0, 1), (-1, 0), (0, -1)].into_iter().enumerate() {
+            let out = 2 * ring + 7 + at as i32;
+            places.push((dx * out, dy * out));
+        }
+        ring = 2 * ring + 11;
+    }
+    places.truncate(far);
+    places.resize(n, (0, 0));
+    let reach = |&(x, y): &(i32, i32)| x.abs().max(y.abs());
+    let room = REACH - places.iter().map(reach).max().unwrap_or(0);
+    let (x, y) = (random.between(-room, room), random.between(-room, room));
+    places.into_iter().map(|(dx, dy)| (x + dx, y + dy)).unzip()
 }
 
 /// Pins on so many places at most, each on any of them.
@@ -440,6 +539,7 @@ mod tests {
                 let (x, y) = sinks(&mut random, kind, n);
                 let places = x.iter().zip(&y).collect::<HashSet<_>>().len();
                 let expected = match kind {
+                    SinkKind::SharedPartner => n / 2 + 1..=n / 2 + 1,
                     SinkKind::OnePlace => 1..=1,
                     SinkKind::FewPlaces => 1..=4,
                     SinkKind::Coinciding => 1..=n - 1,
@@ -448,6 +548,68 @@ mod tests {
                 };
                 assert!(expected.contains(&places), "{kind:?} {n}: {places}");
                 assert_eq!(SinkKind::SHARING.contains(&kind), places < n);
+            }
+        }
+    }
+
+    /// Manhattan distances of a sink to all later ones.
+    fn later_distances(x: &[i32], y: &[i32], i: usize) -> Vec<u32> {
+        let apart = |j: usize| x[i].abs_diff(x[j]) + y[i].abs_diff(y[j]);
+        (i + 1..x.len()).map(apart).collect()
+    }
+
+    #[test]
+    fn an_even_line_has_equal_steps() {
+        let mut random = Random::new(75);
+        for n in (3..40).chain([512]) {
+            let (x, y) = sinks(&mut random, SinkKind::EvenLine, n);
+            let mut places: Vec<(i32, i32)> = x.into_iter().zip(y).collect();
+            places.sort_unstable();
+            let step = |pair: &[(i32, i32)]| (pair[1].0 - pair[0].0, pair[1].1 - pair[0].1);
+            let first = step(&places);
+            assert!(places.windows(2).all(|pair| step(pair) == first));
+        }
+    }
+
+    #[test]
+    fn clusters_are_small_and_come_in_pairs() {
+        let mut random = Random::new(76);
+        for n in [64, 512] {
+            let (x, y) = sinks(&mut random, SinkKind::ClusterPairs, n);
+            let (mut same, mut paired, mut far) = (0, 0, 0);
+            for i in 0..n {
+                for apart in later_distances(&x, &y, i) {
+                    match apart {
+                        0..=8 => same += 1,
+                        52..=72 => paired += 1,
+                        _ => {
+                            assert!(apart > 72, "{apart} in neither cluster of a pair");
+                            far += 1;
+                        }
+                    }
+                }
+            }
+            // About four sinks to a cluster: each has some in both of its pair.
+            assert!(same > n / 2 && paired > n, "{same} {paired}");
+            assert!(far > n * (n - 1) / 2 * 3 / 4, "{far}");
+        }
+    }
+
+    #[test]
+    fn far_sinks_are_nearer_to_the_crowd_than_to_later_ones() {
+        let mut random = Random::new(77);
+        for n in (4..60).chain([255, 256, 257, 511, 512]) {
+            let (x, y) = sinks(&mut random, SinkKind::SharedPartner, n);
+            let far = (n / 2).min(128);
+            for i in 0..n {
+                let apart = later_distances(&x, &y, i);
+                if i < far {
+                    let (later, crowd) = apart.split_at(far - i - 1);
+                    assert!(crowd.iter().all(|&d| d == crowd[0] && d > 0));
+                    assert!(later.iter().all(|&d| d > crowd[0]));
+                } else {
+                    assert!(apart.iter().all(|&d| d == 0));
+                }
             }
         }
     }

@@ -155,14 +155,34 @@ mod tests {
                 assert_eq!(least_joins(&x, &y), naive_joins(&x, &y));
             }
         }
-        for kind in [
-            SinkKind::Clustered,
-            SinkKind::Regular,
-            SinkKind::FewPlaces,
-            SinkKind::Coarse,
-        ] {
+        for kind in SinkKind::GOOD {
             let (x, y) = sinks(&mut random, kind, 150);
             assert_eq!(least_joins(&x, &y), naive_joins(&x, &y));
+        }
+    }
+
+    #[test]
+    fn fast_and_naive_joining_agree_on_many_hard_sinks() {
+        let mut random = Random::new(52);
+        for kind in SinkKind::HARD {
+            for n in [199, 300] {
+                let (x, y) = sinks(&mut random, kind, n);
+                assert_eq!(least_joins(&x, &y), naive_joins(&x, &y), "{kind:?} {n}");
+            }
+        }
+    }
+
+    #[test]
+    fn every_join_in_the_crowd_takes_the_shared_partner_away() {
+        let (n, far) = (100, 50);
+        let (x, y) = sinks(&mut Random::new(53), SinkKind::SharedPartner, n);
+        let mut forest = Forest::new(plane::sink_boxes(&x, &y));
+        for _ in 1..n - far {
+            let (a, b) = forest.choose().unwrap();
+            assert!(a >= far);
+            let partner = |node: usize| forest.partners[node].map(|(_, other)| other);
+            assert!((0..far).all(|node| partner(node) == Some(a)));
+            forest.join(a, b);
         }
     }
 

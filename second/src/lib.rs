@@ -6,11 +6,12 @@
 //! diameter and in the exact search.
 //!
 //! With the feature `proved` the other implementation is linked through its C
-//! interface, and compared and timed against the reference.
+//! interface and compared with the reference; with the feature `bench` it is
+//! timed too, against the reference and against peers in C.
 #![deny(unsafe_code)]
 #![warn(missing_docs)]
 
-#[cfg(feature = "proved")]
+#[cfg(feature = "bench")]
 pub mod bench;
 #[cfg(feature = "proved")]
 pub mod compare;
@@ -21,6 +22,8 @@ pub mod generate;
 pub mod joins;
 pub mod least;
 pub mod lines;
+#[cfg(feature = "bench")]
+mod peers;
 pub mod plane;
 #[cfg(feature = "proved")]
 pub mod proved;

@@ -13,8 +13,8 @@ const USAGE: &str = "usage: second tree                        sink file to the 
 These commands read standard input and write standard output.
        second compare [--seed S] [--count N | --seconds T] [--program PATH] [--trace]
                                           the proved library against this one
-       second bench [--seed S]            times of both, as a table
-These two want the feature proved, and take 30 seconds and seed 1 if not told.";
+       second bench [--seed S]            times of both and of peers in C, as tables
+These two want the features proved and bench, and take 30 seconds and seed 1 if not told.";
 
 fn main() -> ExitCode {
     let arguments: Vec<String> = env::args_os()
@@ -22,8 +22,10 @@ fn main() -> ExitCode {
         .map(|argument| argument.to_string_lossy().into_owned())
         .collect();
     let words: Vec<&str> = arguments.iter().map(String::as_str).collect();
-    if let ["compare" | "bench", rest @ ..] = words.as_slice() {
-        return proved_command(words[0], rest);
+    match words.as_slice() {
+        ["compare", rest @ ..] => return compare(rest),
+        ["bench", rest @ ..] => return bench(rest),
+        _ => {}
     }
     let kind = words.get(1).and_then(|word| text::kind_of_word(word));
     let answer = match (words.as_slice(), kind) {
@@ -44,31 +46,42 @@ fn main() -> ExitCode {
     }
 }
 
-/// The commands over the proved library; a difference makes them fail.
+/// The proved library against the reference; a difference makes it fail.
 #[cfg(feature = "proved")]
-fn proved_command(command: &str, rest: &[&str]) -> ExitCode {
-    use second::{bench, compare};
-    let clean = if command == "bench" {
-        bench::seed_of_words(rest).map(|seed| {
-            bench::run(seed);
-            true
-        })
-    } else {
-        compare::options::Options::of_words(rest).map(compare::run)
-    };
-    match clean {
+fn compare(rest: &[&str]) -> ExitCode {
+    use second::compare::{options::Options, run};
+    match Options::of_words(rest).map(run) {
         Ok(true) => ExitCode::SUCCESS,
         Ok(false) => ExitCode::FAILURE,
-        Err(message) => {
-            eprintln!("{message}\n{USAGE}");
-            ExitCode::from(2)
-        }
+        Err(message) => wrong_words(&message),
     }
 }
 
 #[cfg(not(feature = "proved"))]
-fn proved_command(command: &str, _rest: &[&str]) -> ExitCode {
-    eprintln!("{command} wants a build with the feature proved");
+fn compare(_rest: &[&str]) -> ExitCode {
+    eprintln!("compare wants a build with the feature proved");
+    ExitCode::from(2)
+}
+
+/// The times of all sides.
+#[cfg(feature = "bench")]
+fn bench(rest: &[&str]) -> ExitCode {
+    use second::bench::{run, seed_of_words};
+    match seed_of_words(rest).map(run) {
+        Ok(()) => ExitCode::SUCCESS,
+        Err(message) => wrong_words(&message),
+    }
+}
+
+#[cfg(not(feature = "bench"))]
+fn bench(_rest: &[&str]) -> ExitCode {
+    eprintln!("bench wants a build with the feature bench");
+    ExitCode::from(2)
+}
+
+#[cfg(feature = "proved")]
+fn wrong_words(message: &str) -> ExitCode {
+    eprintln!("{message}\n{USAGE}");
     ExitCode::from(2)
 }
 

@@ -1,6 +1,6 @@
 //! The proved library behind its C interface.
 //!
-//! This is the only module with unsafe code. Each wrapper lends its slices
+//! This and `peers` are the only modules with unsafe code. Each wrapper lends its slices
 //! for the length of one call and gives back what the call said; the C header
 //! in include/skeprafter.h describes the calls themselves.
 #![allow(unsafe_code)]

@@ -89,12 +89,27 @@ fn anything_else_prints_the_usage() {
 #[cfg(not(feature = "proved"))]
 #[test]
 fn comparing_wants_the_feature() {
-    for command in ["compare", "bench"] {
-        let output = run(&[command], b"");
-        assert_eq!(output.status.code(), Some(2));
-        let wanted = format!("{command} wants a build with the feature proved\n");
-        assert_eq!(message(&output), wanted);
-    }
+    let output = run(&["compare"], b"");
+    assert_eq!(output.status.code(), Some(2));
+    let wanted = "compare wants a build with the feature proved\n";
+    assert_eq!(message(&output), wanted);
+}
+
+#[cfg(not(feature = "bench"))]
+#[test]
+fn timing_wants_the_feature() {
+    let output = run(&["bench"], b"");
+    assert_eq!(output.status.code(), Some(2));
+    let wanted = "bench wants a build with the feature bench\n";
+    assert_eq!(message(&output), wanted);
+}
+
+#[cfg(feature = "bench")]
+#[test]
+fn timing_takes_no_other_words() {
+    let wrong = run(&["bench", "--bread"], b"");
+    assert_eq!(wrong.status.code(), Some(2));
+    assert!(message(&wrong).starts_with("bench takes only --seed S\nusage: second tree"));
 }
 
 #[cfg(feature = "proved")]
