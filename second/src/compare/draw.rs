@@ -103,9 +103,14 @@ fn doubly_damaged(random: &mut Random, n: usize) -> Vec<u16> {
 
 /// A large number of sinks; the greatest are drawn in every eighth round.
 pub fn large(random: &mut Random, round: usize) -> usize {
-    let any = 101 + random.below(412);
     match round % 8 {
-        7 => random.pick(&[512, 511, any]),
+        7 => most(random),
         _ => 15 + random.below(86),
     }
+}
+
+/// A number of sinks above 100, often one of the greatest two.
+pub fn most(random: &mut Random) -> usize {
+    let any = 101 + random.below(412);
+    random.pick(&[512, 511, any])
 }

@@ -5,7 +5,7 @@ use super::lent::{refused, told, Outcome, Parts, Room};
 use super::session::{self, Session};
 use super::Case;
 use crate::embed::embed;
-use crate::generate::{budget, good_joins, Random};
+use crate::generate::{budget, good_joins, sinks, Random, SinkKind};
 use crate::least::{build_least, join_least};
 use crate::plane::MOST_SEARCHED;
 use crate::proved::{self, Answer, Said};
@@ -21,6 +21,7 @@ pub const CASES: &[Case] = &[
     ("join", join_small),
     ("join odd counts", join_odd_counts),
     ("join many", join_large),
+    ("join most", join_most),
     ("search budgets", search_budgets),
     ("search every budget", search_every_budget),
     ("search rooms", search_rooms),
@@ -238,6 +239,19 @@ fn join_large(session: &mut Session, random: &mut Random) {
     let lists = draw::good(random, n);
     for call in [Call::JoinNearest, Call::EmbedNearest] {
         session.check(&Task::new(call, lists.clone()));
+    }
+}
+
+/// Up to the greatest number of sinks, of a hard kind and of any kind, each
+/// in turn from round to round.
+fn join_most(session: &mut Session, random: &mut Random) {
+    for kinds in [&SinkKind::HARD[..], &SinkKind::GOOD] {
+        let kind = kinds[session.round() % kinds.len()];
+        let n = draw::most(random);
+        let lists = sinks(random, kind, n);
+        for call in [Call::JoinNearest, Call::EmbedNearest] {
+            session.check(&Task::new(call, lists.clone()));
+        }
     }
 }
 
