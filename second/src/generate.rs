@@ -246,6 +246,10 @@ fn regular(random: &mut Random, n: usize) -> (Vec<i32>, Vec<i32>) {
     numbering(random, n).into_iter().map(place).unzip()
 }
 
+/// The side of a cluster, and how far the two of a pair are apart.
+const CLUSTER: i32 = 5;
+const APART: i32 = 60;
+
 /// About four sinks to a cluster of five by five places, and one pair of
 /// clusters to eight sinks.
 fn cluster_pairs(random: &mut Random, n: usize) -> (Vec<i32>, Vec<i32>) {
@@ -256,17 +260,13 @@ fn cluster_pairs(random: &mut Random, n: usize) -> (Vec<i32>, Vec<i32>) {
         .collect();
     distinct(random, n, |random| {
         let (x, y) = random.pick(&corners);
-        let (across, up) = random.pick(&[(0, 0), (APART, 0)]);
+        let across = random.pick(&[0, APART]);
         (
             x + across + random.between(0, CLUSTER - 1),
-            y + up + random.between(0, CLUSTER - 1),
+            y + random.between(0, CLUSTER - 1),
         )
     })
 }
-
-/// The side of a cluster, and how far the two of a pair are apart.
-const CLUSTER: i32 = 5;
-const APART: i32 = 60;
 
 /// The far sinks stand on rings around the crowd, eight on each, in tilted
 /// coordinates on the middles of the sides and on the corners of a square.
