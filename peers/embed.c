@@ -1,10 +1,11 @@
 /*
- * The embedding of a joining order, tuned for few passes over few bytes.
+ * The embedding of a joining order, tuned for short loops over few bytes.
  *
  * A box is four numbers side by side, the least ones negated, so that the
  * hull is four times the greater of two: one vector instruction. One pass up
- * makes boxes and diameters and checks the order; one pass down gives each
- * join's two children their places and wires, so no parents are kept.
+ * makes boxes, diameters and parents, and checks the order by the parents;
+ * one pass down places the joins alone. The places of sinks are known
+ * without their parents, and wires need no order.
  */
 #include "peers.h"
 
@@ -26,7 +27,7 @@ uint64_t peer_embed(const int32_t *x, const int32_t *y, size_t n, const uint16_t
 {
     Box boxes[1023];
     int32_t d[1023];
-    uint8_t named[1023] = {0};
+    uint16_t parent[1023] = {0}; /* no node has parent 0 */
     uint32_t total = 0;
     if (!peer_in_range(x, y, n))
         return PEER_REFUSED;
@@ -35,11 +36,12 @@ uint64_t peer_embed(const int32_t *x, const int32_t *y, size_t n, const uint16_t
         boxes[i] = (Box){{-su, su, -sv, sv}};
         d[i] = 0;
     }
-    for (size_t i = n; i < 2 * n - 1; i++) {
-        size_t a = joins[2 * (i - n)], b = joins[2 * (i - n) + 1];
-        if (a >= i || b >= i || a == b || named[a] | named[b])
+    const size_t root = 2 * n - 2;
+    for (size_t i = n; i <= root; i++) {
+        const size_t a = joins[2 * (i - n)], b = joins[2 * (i - n) + 1];
+        if (a >= i || b >= i || a == b || parent[a] | parent[b])
             return PEER_REFUSED;
-        named[a] = named[b] = 1;
+        parent[a] = parent[b] = (uint16_t)i;
         Box box;
         for (int k = 0; k < 4; k++)
             box.end[k] = greater(boxes[a].end[k], boxes[b].end[k]);
@@ -48,18 +50,19 @@ uint64_t peer_embed(const int32_t *x, const int32_t *y, size_t n, const uint16_t
         total += (uint32_t)d[i];
     }
 
-    size_t root = 2 * n - 2;
     u[root] = 2 * boxes[root].end[1] - d[root];
     v[root] = 2 * boxes[root].end[3] - d[root];
-    wires[root] = 0;
-    for (size_t i = root; i >= n; i--) {
-        const int32_t pu = u[i], pv = v[i], pd = d[i];
-        for (int k = 0; k < 2; k++) {
-            size_t child = joins[2 * (i - n) + (size_t)k];
-            u[child] = nearest(boxes[child].end, d[child], pu);
-            v[child] = nearest(boxes[child].end + 2, d[child], pv);
-            wires[child] = (uint32_t)(pd - d[child]);
-        }
+    for (size_t i = root; i-- > n;) {
+        const size_t above = parent[i];
+        u[i] = nearest(boxes[i].end, d[i], u[above]);
+        v[i] = nearest(boxes[i].end + 2, d[i], v[above]);
     }
+    for (size_t i = 0; i < n; i++) {
+        u[i] = 2 * (x[i] + y[i]);
+        v[i] = 2 * (x[i] - y[i]);
+    }
+    for (size_t i = 0; i < root; i++)
+        wires[i] = (uint32_t)(d[parent[i]] - d[i]);
+    wires[root] = 0;
     return total + (uint32_t)d[root];
 }
