@@ -1,12 +1,20 @@
 -- The first index at which a test holds: what it tells, and a search for it, a turn at a time.
 use mathlib.Core.Path.{_≡_, refl, sym, _∙_}
-use mathlib.Core.Bool.{Bool, true, false}
+use mathlib.Core.Bool.{Bool, true, false, cond}
 use Prim.Native.Nat.{ℕ, zero, suc, _+_, _-_, _≤_, _<_}
 use native.Mathlib.Omega.{arith}
 use native.Mathlib.Numerals.{add-one}
 use borrow.Author.Tests.{ltb-true, ltb-false}
 use lib.Dec.{ltb}
 use Rattle.lists.specs.First.{first, any}
+
+pub first-end : (p : ℕ → Bool) (i k : ℕ) → first p i k ≤ i + k
+first-end p i zero = omega arith
+first-end p i (suc k) = go (p i) (first-end p (suc i) k)
+  where
+    go : (t : Bool) → first p (suc i) k ≤ suc i + k → cond t i (first p (suc i) k) ≤ i + suc k
+    go true h = omega arith
+    go false h = omega arith
 
 pub first-hit : (p : ℕ → Bool) (i k : ℕ) → first p i k < i + k → p (first p i k) ≡ true
 first-hit p i zero h = let b : ⊥ = omega arith in absurd b

@@ -11,21 +11,25 @@ use lib.IntN.{ℤ}
 use lib.ListN.{length, getD, take, drop, set, length-set, take-append-drop, List·getD-append}
 use lib.Seq.{take-suc-set, take-at, drop-set-lt, drop-drop, getD-at, length-take-le}
 use Rattle.lists.specs.Grow.{front, upTo}
-use Rattle.lists.proofs.Grow.{getD-tab, length-upTo}
+use Rattle.lists.proofs.Grow.{getD-tab, length-upTo, upTo-more}
 use Rattle.zero_skew.specs.Plane.{Sinks}
+use Rattle.plane.specs.declared.boxes.Box.{Box}
 use Rattle.plane.specs.Boxes.{hullOf}
 use Rattle.plane.specs.Covers.{Covers}
 use Rattle.plane.specs.Sinks.{sinksAt}
 use Rattle.plane.proofs.Covering.{covers-hull, covers-diam}
 use Rattle.nearest.specs.declared.pair.Pair.{Pair}
 use Rattle.nearest.specs.Nearest.{pair, below, union, best, without, after, chosen, joins, alone, order}
-use Rattle.nearest.specs.Boxes.{boxAt, reach, Boxed, Puts, Sinked}
-use Rattle.nearest.specs.Live.{All, Packed}
+use Rattle.nearest.specs.Boxes.{boxAt, reach, Puts, Sinked}
+use Rattle.nearest.specs.Live.{Packed}
+use Rattle.nearest.specs.Rows.{rowAt, Roomy, Right, Caching, Picks, Closed, Entered}
 use Rattle.nearest.specs.Rounds.{Open, Made, Round}
-use Rattle.nearest.proofs.Members.{all-map, in-all}
+use Rattle.nearest.proofs.Members.{all-without, in-all}
 use Rattle.nearest.proofs.Pairs.{Within, best-same}
-use Rattle.nearest.proofs.Packed.{two-left, packed-within}
+use Rattle.nearest.proofs.Packed.{two-left, packed-begin, packed-within}
 use Rattle.nearest.proofs.Running.{Running, more, running-begin, running-turn}
+use Rattle.nearest.proofs.Entering.{right-same, right-enter}
+use Rattle.nearest.proofs.Closing.{right-close, without-at}
 
 -- ---- the boxes are those of the sinks below each node
 pub record Held (s : Sinks) (m : ℕ) (sets : List (List ℕ)) (bs : List ℕ) : Type 0 where
@@ -67,44 +71,75 @@ pub held-begin : {xs ys : List ℤ} (n : ℕ) {bs : List ℕ} → Sinked xs ys n
 held-begin n v = record { full = λ k h. rw (alone-at n k h) (omega arith); covers = λ k h. rw (alone-at n k h) (v .covers k h) }
 
 -- ---- after i joins of n sinks
-pub record Going (s : Sinks) (n i : ℕ) (bs live js₀ js : List ℕ) : Type 0 where
+pub record Going (s : Sinks) (n i : ℕ) (bs live rows js₀ js : List ℕ) : Type 0 where
   pub sets : List (List ℕ)
   pub running : Running n i sets live
   pub held : Held s (n + i) sets bs
+  pub right : Right bs live (n + i) (rowAt rows)
   pub is : take (2 * i) js ++ joins s (n - 1 - i) sets live ≡ order s n
   pub rest : drop (2 * i) js ≡ drop (2 * i) js₀
   pub size : length js ≡ length js₀
 
 -- at first, with all sinks at the front of a list
-pub going-begin : {xs ys : List ℤ} (n : ℕ) {bs live : List ℕ} (rest js : List ℕ) → Sinked xs ys n bs → live ≡ upTo n → Going (sinksAt xs ys) n 0 bs (take (n - 0) (live ++ rest)) js js
+pub going-begin : {xs ys : List ℤ} (n : ℕ) {bs live rows : List ℕ} (rest js : List ℕ) → Sinked xs ys n bs → live ≡ upTo n → Right bs (upTo n) n (rowAt rows) → Going (sinksAt xs ys) n 0 bs (take (n - 0) (live ++ rest)) rows js js
 unfolding order
-going-begin n {live = live} rest js v b =
+going-begin n {live = live} rest js v b m =
     let e : n + 0 ≡ n = omega arith in
     let k : n - 1 - 0 ≡ n - 1 = omega arith in
     let a : take (n - 0) (live ++ rest) ≡ upTo n = rw b (take-at (upTo n) rest (n - 0) (omega (arith, length-upTo n))) in
-    record { sets = alone n; running = rw a (running-begin n); held = rw e (held-begin n v); is = rw (k, a); rest = refl; size = refl }
+    record { sets = alone n; running = rw a (running-begin n); held = rw e (held-begin n v); right = rw (e, a) m; is = rw (k, a); rest = refl; size = refl }
 
 -- the code chooses the definition's pair
-pub pick-is : {s : Sinks} {n i : ℕ} {bs live js₀ js : List ℕ} (v : Going s n i bs live js₀ js) → best (reach bs) live ≡ chosen s (v .sets) live
+pub pick-is : {s : Sinks} {n i : ℕ} {bs live rows js₀ js : List ℕ} (v : Going s n i bs live rows js₀ js) → best (reach bs) live ≡ chosen s (v .sets) live
 pick-is {s} {n} {i} {bs} v = best-same (reach bs) (union s (v .sets)) (n + i) (held-same (v .held)) (v .running .packed .low)
 
 -- there is a pair to find: what the leaf asks
-pub open-boxed : {n i : ℕ} {bs live js : List ℕ} → Open n i bs live js → All (Boxed bs) live × (2 ≤ length live)
-open-boxed o = (all-map (λ a h. omega (arith, o .box-room)) (o .packed .low), omega (arith, o .packed .count, o .turn))
+pub open-caching : {n i : ℕ} {bs live rows js : List ℕ} → Open n i bs live rows js → Caching bs live rows
+open-caching {n} {i} o =
+    let p = o .packed in
+    record {
+      top = n + i;
+      right = o .right;
+      rising = p .rising;
+      low = p .low;
+      few-nodes = omega (arith, o .turn, o .few);
+      two = omega (arith, p .count, o .turn);
+      few = omega (arith, p .count, o .few);
+      roomy = o .roomy;
+    }
 
 -- its two nodes are lower than the one that they make
 within-low : {n i : ℕ} {live : List ℕ} {p : Pair} → Packed n i live → Within live p → (p .low < n + i) × (p .high < n + i)
 within-low v w = (in-all (w .low-in) (v .low), in-all (w .high-in) (v .low))
 
--- and in the list there is room for it in their place
-pub open-join : {n i : ℕ} {bs live js : List ℕ} (p : Pair) → Open n i bs live js → p ≡ best (reach bs) live → (p .low < n + i) × (p .high < n + i) × (length (without p live) < length live)
+-- they are live
+pub open-close : {n i : ℕ} {bs live rows js : List ℕ} (p : Pair) → Open n i bs live rows js → p ≡ best (reach bs) live → Within live p
+open-close {bs = bs} p o e = rw e (packed-within (reach bs) (o .packed) (o .turn))
+
+-- and in the list there is room for the new one in their place
+pub open-join : {n i : ℕ} {bs live rows js : List ℕ} (p : Pair) → Open n i bs live rows js → p ≡ best (reach bs) live → (p .low < n + i) × (p .high < n + i) × (length (without p live) < length live)
 open-join {bs = bs} p o e =
     let w = packed-within (reach bs) (o .packed) (o .turn) in
     let (low, high) = within-low (o .packed) w in
     rw e (low, high, omega (arith, two-left (best (reach bs) _) (o .packed .rising) w))
 
-pub round-of : {n i : ℕ} {bs bs′ live live′ js js′ : List ℕ} (p : Pair) → p ≡ best (reach bs) live → Made (n + i) p bs bs′ live live′ → js′ ≡ set (set js (2 * i) (p .low)) (2 * i + 1) (p .high) → Round n i bs bs′ live live′ js js′
-round-of p e m w = record { made = rw e at m; writes = rw e at w }
+-- ---- what is kept is right again after a join: the two rows left, and the new node entered after the others
+module _ {n i : ℕ} {bs bs′ live live′ rows js : List ℕ} (p : Pair) (o : Open n i bs live rows js) (e : p ≡ best (reach bs) live) (d : Made (n + i) p bs bs′ live live′) where
+  pub right-round : (b : Box) (rows1 rows2 rows3 : List ℕ) → Picks bs live rows p rows1 → Closed live p rows1 rows2 → b ≡ boxAt bs′ (n + i) → Entered (length live - 2) b (n + i) rows2 rows3 → Right bs′ (after p (n + i) live) (n + i + 1) (rowAt rows3)
+  right-round b rows1 rows2 rows3 k c is w =
+      let low = o .packed .low in
+      let a = without-at p (c .low) (c .high) (o .packed .rising) (c .up) (c .inside) (c .is-low) (c .is-high) in
+      let v : Right bs (without p live) (n + i) (rowAt rows2) = right-close (c .low) (c .high) (k .right (n + i) low (o .right)) (a .1) (a .0) (λ t h. c .moved t (omega (arith, a .1))) in
+      right-enter b (length live - 2) is (omega (arith, a .1)) (right-same v (all-without p low) (d .puts .before)) (all-without p low) (w .holds) (w .gives) (w .puts)
+
+  pub round-of : {rows′ js′ : List ℕ} → Right bs′ (after p (n + i) live) (n + i + 1) (rowAt rows′) → js′ ≡ set (set js (2 * i) (p .low)) (2 * i + 1) (p .high) → Round n i bs bs′ live live′ rows′ js js′
+  round-of r w = record { made = rw e at d; right = rw e at r; writes = rw e at w }
+
+-- ---- the rows of the sinks, one at a time
+pub right-sink : {bs : List ℕ} (i : ℕ) (b : Box) (rows rows′ : List ℕ) → Right bs (upTo i) i (rowAt rows) → b ≡ boxAt bs i → Entered i b i rows rows′ → Right bs (upTo (i + 1)) (i + 1) (rowAt rows′)
+right-sink i b rows rows′ v is w =
+    let z : i + 0 ≡ i = omega arith in
+    rw (upTo-more i) (right-enter b i is (sym (length-upTo i)) v (rw z at (packed-begin i .low)) (w .holds) (w .gives) (w .puts))
 
 two-more : (l : List ℕ) (k a b : ℕ) → k + 1 < length l → take (k + 2) (set (set l k a) (k + 1) b) ≡ take k l ++ (a ∷ b ∷ [])
 two-more l k a b h =
@@ -115,8 +150,8 @@ two-more l k a b h =
 next-live : (p : Pair) (m k : ℕ) (live : List ℕ) {live′ : List ℕ} (rest : List ℕ) → live′ ≡ front (after p m live) live → length (after p m live) ≡ k → take k (live′ ++ rest) ≡ after p m live
 next-live p m k live rest e h = rw (e, append-assoc) (take-at (after p m live) (drop (length (after p m live)) live ++ rest) k h)
 
-module _ {s : Sinks} {n i : ℕ} {bs bs′ live live′ js₀ js js′ : List ℕ} where
-  pub going-turn : (rest : List ℕ) → Going s n i bs live js₀ js → i + 1 < n → 2 * i + 1 < length js → Round n i bs bs′ live live′ js js′ → Going s n (i + 1) bs′ (take (n - (i + 1)) (live′ ++ rest)) js₀ js′
+module _ {s : Sinks} {n i : ℕ} {bs bs′ live live′ rows rows′ js₀ js js′ : List ℕ} where
+  pub going-turn : (rest : List ℕ) → Going s n i bs live rows js₀ js → i + 1 < n → 2 * i + 1 < length js → Round n i bs bs′ live live′ rows′ js js′ → Going s n (i + 1) bs′ (take (n - (i + 1)) (live′ ++ rest)) rows′ js₀ js′
   unfolding joins
   going-turn rest v h b d =
       let p = best (reach bs) live in
@@ -132,6 +167,7 @@ module _ {s : Sinks} {n i : ℕ} {bs bs′ live live′ js₀ js js′ : List �
         sets = more (v .sets) p;
         running = rw next run;
         held = rw up (held-turn p (v .held) (v .running .size) low high (d .made .puts));
+        right = rw (next, up) (d .right);
         is =
             rw (d .writes, two, two-more js (2 * i) (p .low) (p .high) b, append-assoc, next, pick-is v)
             (let step : joins s (n - 1 - i) (v .sets) live ≡ q .low ∷ q .high ∷ joins s (n - 1 - (i + 1)) (more (v .sets) q) (after q (n + i) live) = rw (less, v .running .size) in
@@ -146,10 +182,10 @@ module _ {s : Sinks} {n i : ℕ} {bs bs′ live live′ js₀ js js′ : List �
         size = rw (d .writes) (simp length-set (v .size));
       }
 
-pub going-open : {s : Sinks} {n i : ℕ} {bs live js₀ js : List ℕ} → Going s n i bs live js₀ js → i + 1 < n → n ≤ 512 → 4092 ≤ length bs → 2 * (n - 1) ≤ length js₀ → Open n i bs live js
-going-open v h f b r = record { packed = v .running .packed; turn = h; few = f; box-room = omega arith; room = omega (arith, v .size) }
+pub going-open : {s : Sinks} {n i : ℕ} {bs live rows js₀ js : List ℕ} → Going s n i bs live rows js₀ js → i + 1 < n → n ≤ 512 → 4092 ≤ length bs → Roomy rows → 2 * (n - 1) ≤ length js₀ → Open n i bs live rows js
+going-open v h f b l r = record { packed = v .running .packed; right = v .right; turn = h; few = f; box-room = omega arith; roomy = l; room = omega (arith, v .size) }
 
-pub going-end : {s : Sinks} {n i : ℕ} {bs live js₀ js : List ℕ} → Going s n i bs live js₀ js → i ≡ n - 1 → 2 * (n - 1) ≤ length js₀ → js ≡ front (order s n) js₀
+pub going-end : {s : Sinks} {n i : ℕ} {bs live rows js₀ js : List ℕ} → Going s n i bs live rows js₀ js → i ≡ n - 1 → 2 * (n - 1) ≤ length js₀ → js ≡ front (order s n) js₀
 unfolding joins
 going-end {s} {n} {i} {js₀ = js₀} {js} v e r =
     let z : n - 1 - i ≡ 0 = omega arith in

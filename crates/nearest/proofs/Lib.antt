@@ -5,10 +5,18 @@ pub mod Boxing
 pub mod Packed
 pub mod Leaving
 pub mod Running
-pub mod Going
-pub mod Passing
 pub mod Validity
 pub mod Ruled
+-- what is kept beside each live node
+pub mod Rowing
+pub mod Leasts
+pub mod Entering
+pub mod Closing
+pub mod Picking
+pub mod Ending
+-- from join to join, and the calls
+pub mod Going
+pub mod Passing
 pub mod Treed
 pub mod ZeroSkew
 pub mod Outcomes

@@ -1,11 +1,12 @@
 -- What holds of each entry of a list, and of each entry with those after it.
-use mathlib.Core.Path.{_≡_, refl}
+use mathlib.Core.Path.{_≡_, refl, ap, _∙_}
 use mathlib.Core.Bool.{Bool, true, false, cond}
 use mathlib.Core.List.{List, [], _∷_, _++_}
-use Prim.Native.Nat.{ℕ, zero, suc, _<_}
+use Prim.Native.Nat.{ℕ, zero, suc, _+_, _-_, _<_}
 use native.Mathlib.Omega.{arith}
 use borrow.Author.Tests.{ne-eqb}
-use lib.ListN.{length, getD, drop}
+use lib.ListN.{length, getD, drop, length-drop}
+use lib.Seq.{getD-drop}
 use Rattle.nearest.specs.declared.pair.Pair.{Pair}
 use Rattle.nearest.specs.Nearest.{isOf, without}
 use Rattle.nearest.specs.Rule.{In}
@@ -101,3 +102,10 @@ rising-more m r b = each-more {Q = λ a bs. All (λ c. a < c) bs × (a < m)} m (
 
 pub rising-without : {ls : List ℕ} (p : Pair) → Rising ls → Rising (without p ls)
 rising-without p r = each-without p (λ a bs q. all-without p q) r
+
+pub rising-at : {ls : List ℕ} (s t : ℕ) → Rising ls → s < t → t < length ls → getD ls s 0 < getD ls t 0
+rising-at {ls} s t r h l =
+    let a = all-at (t - suc s) (each-at s r (omega arith)) (omega (arith, length-drop (suc s) ls)) in
+    let e : suc s + (t - suc s) ≡ t = omega arith in
+    let q : getD (drop (suc s) ls) (t - suc s) 0 ≡ getD ls t 0 = getD-drop (suc s) ls (t - suc s) 0 ∙ ap (λ (o : ℕ). getD ls o 0) e in
+    omega (arith, q, a)

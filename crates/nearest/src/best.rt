@@ -1,46 +1,47 @@
-// The pair to join: of the live nodes the first whose union has the least diameter.
-ghost use mathlib.Core.Path.{_≡_};
+// The pair to join: of the live nodes the first whose union has the least diameter, from what is kept beside each.
 ghost use Prim.Native.Nat.{_≤_};
 ghost use lib.ListN.{length};
-ghost use Rattle.nearest.specs.Nearest.{row, leastFrom, best};
-ghost use Rattle.nearest.specs.Boxes.{reach, Boxed};
-ghost use Rattle.nearest.specs.Live.{All};
+ghost use Rattle.nearest.specs.Rows.{Roomy, Caching, Chooses, Picks};
+use crate::live;
+use crate::lowest;
 use crate::pair::Pair;
-use crate::table;
+use crate::rows;
 
-// The first least of a pair and the pairs of node a with each later one.
-fn row_best(later: &[usize], bs: &[u32], a: usize, p: Pair) -> Pair
-    requires { ⌜ All (Boxed (now bs)) (now later) × Boxed (now bs) a × Boxed (now bs) (p .low) × Boxed (now bs) (p .high) ⌝ }
-    ensures { λ r. ⌜ (r ≡ leastFrom (reach (now (bs .entry))) p (row a (now (later .entry)))) × Boxed (now (bs .entry)) (r .low) × Boxed (now (bs .entry)) (r .high) ⌝ }
-{
-    let mut q = p;
-    let mut d = table::across(bs, p.low, p.high);
-    let mut t = 0;
-    while t < later.len() {
-        let b = later[t];
-        let e = table::across(bs, a, b);
-        if e < d {
-            q = Pair { low: a, high: b };
-            d = e;
-        }
-        t += 1;
-    }
-    q
+// A row, and where its partner stands among the live nodes.
+pub struct Choice {
+    pub row: usize,
+    pub with: usize,
 }
 
-// The leaf: the best pair of live nodes, which come in rising order. Every pair is looked at.
-pub fn nearest(live: &[usize], bs: &[u32]) -> Pair
-    requires { ⌜ All (Boxed (now bs)) (now live) × (2 ≤ length (now live)) ⌝ }
-    ensures { λ r. ⌜ r ≡ best (reach (now (bs .entry))) (now (live .entry)) ⌝ }
+// The first of the rows whose partner is nearest. The last row has no partner.
+fn choose(live: &[usize], rows: &[u32]) -> Choice
+    requires { ⌜ Roomy (now rows) × (2 ≤ length (now live)) × (length (now live) ≤ 512) ⌝ }
+    ensures { λ r. ⌜ Chooses (now (live .entry)) (now (rows .entry)) r ⌝ }
 {
-    let a = live[0];
-    let b = live[1];
-    let mut p = Pair { low: a, high: b };
-    let mut i = 0;
-    while i < live.len() {
-        let c = live[i];
-        p = row_best(&live[i + 1..], bs, c, p);
-        i += 1;
+    let a = lowest::lowest(rows, live.len() - 1);
+    let j = rows[2560 + a] as usize;
+    Choice {
+        row: a,
+        with: live::place(live, j),
     }
-    p
+}
+
+// The leaf: the best pair of live nodes, which come in rising order. A row whose partner is gone is looked through again only where it comes first:
+// what it keeps is nearer than what is left, so no other pair is passed over.
+pub fn nearest(live: &[usize], bs: &[u32], rows: &mut [u32]) -> Pair
+    requires { ⌜ Caching (now bs) (now live) (now rows) ⌝ }
+    ensures { λ r. ⌜ Picks (now (bs .entry)) (now (live .entry)) (now (rows .entry)) r (now (rows .exit)) ⌝ }
+{
+    let mut c = choose(live, rows);
+    while c.with == live.len() {
+        let q = lowest::partner(rows, live, c.row);
+        rows::give(rows, c.row, q);
+        c = choose(live, rows);
+    }
+    let s = c.row;
+    let t = c.with;
+    Pair {
+        low: live[s],
+        high: live[t],
+    }
 }

@@ -3,6 +3,7 @@ ghost use mathlib.Core.Path.{_≡_};
 ghost use lib.ListN.{length};
 ghost use Rattle.lists.specs.Grow.{front, upTo};
 ghost use Rattle.nearest.specs.Nearest.{isOf, without};
+ghost use Rattle.nearest.specs.Rows.{placeOf};
 use crate::pair::Pair;
 
 fn is_of(p: Pair, a: usize) -> bool
@@ -37,4 +38,18 @@ pub fn leave(live: &mut [usize], p: Pair) -> usize
         t += 1;
     }
     w
+}
+
+// Where a node stands; how many there are, where it is not live.
+pub fn place(live: &[usize], x: usize) -> usize
+    ensures { λ r. ⌜ r ≡ placeOf (now (live .entry)) x ⌝ }
+{
+    let mut i = 0;
+    while i < live.len() {
+        if live[i] == x {
+            return i;
+        }
+        i += 1;
+    }
+    i
 }

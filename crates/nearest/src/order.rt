@@ -9,6 +9,7 @@ ghost use Rattle.nearest.specs.Rounds.{Open, Made, Round};
 ghost use Rattle.nearest.specs.Calls.{orderAt, checkNearest, Joining};
 ghost use Rattle.nearest.specs.Ready.{CanJoin};
 use crate::best;
+use crate::keep;
 use crate::live;
 use crate::pair::Pair;
 use crate::table;
@@ -49,13 +50,16 @@ fn join(bs: &mut [u32], live: &mut [usize], m: usize, p: Pair)
     live[w] = m;
 }
 
-// Join i of n sinks: the best pair is joined and written.
-fn round(bs: &mut [u32], live: &mut [usize], n: usize, i: usize, js: &mut [u16])
-    requires { ⌜ Open n i (now bs) (now live) (now js) ⌝ }
-    ensures { λ _. ⌜ Round n i (now (bs .entry)) (now (bs .exit)) (now (live .entry)) (now (live .exit)) (now (js .entry)) (now (js .exit)) ⌝ }
+// Join i of n sinks: the best pair is joined and written, and what is kept is right again for the live nodes, one fewer.
+fn round(bs: &mut [u32], live: &mut [usize], rows: &mut [u32], n: usize, i: usize, js: &mut [u16])
+    requires { ⌜ Open n i (now bs) (now live) (now rows) (now js) ⌝ }
+    ensures { λ _. ⌜ Round n i (now (bs .entry)) (now (bs .exit)) (now (live .entry)) (now (live .exit)) (now (rows .exit)) (now (js .entry)) (now (js .exit)) ⌝ }
 {
-    let p = best::nearest(live, bs);
-    join(bs, live, n + i, p);
+    let m = n + i;
+    let p = best::nearest(live, bs, rows);
+    keep::close(live, rows, p);
+    join(bs, live, m, p);
+    keep::enter(rows, live.len() - 2, table::box_at(bs, m), m);
     write_pair(js, i, p);
 }
 
@@ -67,11 +71,13 @@ pub fn order_sound(xs: &[i32], ys: &[i32], js: &mut [u16])
     let n = xs.len();
     let mut bs = [0u32; 4092];
     let mut live = [0usize; 512];
+    let mut rows = [0u32; 3072];
     table::put_sinks(xs, ys, &mut bs);
     live::begin(&mut live[..n]);
+    keep::begin(&bs, &mut rows, n);
     let mut i = 0;
     while i + 1 < n {
-        round(&mut bs, &mut live[..n - i], n, i, js);
+        round(&mut bs, &mut live[..n - i], &mut rows, n, i, js);
         i += 1;
     }
 }

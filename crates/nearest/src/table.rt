@@ -4,7 +4,7 @@ ghost use Prim.Native.Nat.{_*_, _≤_, _<_};
 ghost use lib.ListN.{length};
 ghost use Rattle.plane.specs.Sinks.{Ranged};
 ghost use Rattle.plane.specs.Boxes.{hullOf};
-ghost use Rattle.nearest.specs.Boxes.{boxAt, reach, Boxed, Puts, Sinked};
+ghost use Rattle.nearest.specs.Boxes.{boxAt, Boxed, Puts, Sinked};
 use crate::pair::Pair;
 use plane::bounds;
 use plane::boxes;
@@ -12,7 +12,7 @@ use plane::boxes::Box;
 use plane::measure;
 
 // The box of node k.
-fn box_at(bs: &[u32], k: usize) -> Box
+pub fn box_at(bs: &[u32], k: usize) -> Box
     requires { ⌜ Boxed (now bs) k ⌝ }
     ensures { λ r. ⌜ r ≡ boxAt (now (bs .entry)) k ⌝ }
 {
@@ -31,14 +31,6 @@ fn union_at(bs: &[u32], a: usize, b: usize) -> Box
     ensures { λ r. ⌜ r ≡ hullOf (boxAt (now (bs .entry)) a) (boxAt (now (bs .entry)) b) ⌝ }
 {
     boxes::hull(box_at(bs, a), box_at(bs, b))
-}
-
-// The diameter of the union of two nodes.
-pub fn across(bs: &[u32], a: usize, b: usize) -> u32
-    requires { ⌜ Boxed (now bs) a × Boxed (now bs) b ⌝ }
-    ensures { λ r. ⌜ r ≡ reach (now (bs .entry)) a b ⌝ }
-{
-    boxes::diameter(union_at(bs, a, b))
 }
 
 fn put_box(bs: &mut [u32], k: usize, b: Box)

@@ -1,70 +1,84 @@
-use Prim.Native.Nat.{_+_, _-_}
+use mathlib.Core.Path.{_≡_, refl, sym, ap, _∙_}
+use Prim.Native.Nat.{ℕ, _-_}
 use native.Mathlib.Omega.{arith}
 use denote.Ref.{now}
 use lib.ListN.{length}
-use Rattle.nearest.specs.Boxes.{reach, Boxed}
-use Rattle.nearest.proofs.Members.{all-at, all-drop}
-use Rattle.nearest.proofs.Pairs.{tail-is, Rows, rows-begin, rows-turn, rows-end}
+use Rattle.nearest.specs.Live.{Below}
+use Rattle.nearest.specs.Rows.{Row, rowAt, Right, Chooses}
+use Rattle.nearest.proofs.Members.{all-at}
+use Rattle.nearest.proofs.Picking.{right-chosen, right-mend, missing, hit-at}
+use Rattle.nearest.proofs.Ending.{gone, gone-less}
 use Rattle.nearest.proofs.best.nearest.Statement.{statement}
 use Rattle.nearest.proofs.best.nearest.Tie as tie
 
 abbrev Inv-loop : tie.InvT-loop
-Inv-loop live bs a b p₀ i₀ p i = Rows (reach bs) (Boxed bs) live p i
+Inv-loop live bs rows₀ c₀ rows c = (length rows ≡ length rows₀) × ((m : ℕ) → Below m live → Right bs live m (rowAt rows₀) → Right bs live m (rowAt rows)) × Chooses live rows c
 
 abbrev μ-loop : tie.MeasureT-loop
-μ-loop live bs a b p₀ i₀ p i = length live - i
+μ-loop live bs rows₀ c₀ rows c = gone live rows (length live - 1)
 
-shared-slice-read-a : tie.Need-shared-slice-read-a Inv-loop μ-loop
-shared-slice-read-a c = omega arith
-
-shared-slice-read-b : tie.Need-shared-slice-read-b Inv-loop μ-loop
-shared-slice-read-b c = omega arith
+choose-requires : tie.Need-choose-requires Inv-loop μ-loop
+choose-requires c κs = (let o = c .before .before .before .before .pre in (o .roomy, o .two, o .few))
 
 loop-holds : tie.Need-loop-holds Inv-loop μ-loop
-loop-holds c =
-    let s = c .before .before .before .before in
-    rows-begin (now (s .args .live)) (s .pre .1) (all-at 0 (s .pre .0) (omega arith)) (all-at 1 (s .pre .0) (omega arith))
+loop-holds c = (refl, λ m b v. v, c .choose .ensures)
 
-mul-c : tie.Need-mul-c Inv-loop μ-loop
-mul-c c = omega arith
+partner-requires : tie.Need-partner-requires Inv-loop μ-loop
+partner-requires c κs =
+    let o = c .before .before .before .before .before .before .before .before .before .pre in
+    let v = c .before .before .before .loop .inv in
+    (omega (arith, o .roomy, v .0), omega (arith, v .2 .lowest .one), o .few)
 
-shared-slice-read-c : tie.Need-shared-slice-read-c Inv-loop μ-loop
-shared-slice-read-c c = omega arith
+give-requires : tie.Need-give-requires Inv-loop μ-loop
+give-requires c κs =
+    let o = c .before .before .before .before .before .before .before .before .before .before .before .pre in
+    let v = c .before .before .before .before .before .loop .inv in
+    let q = c .before .partner .ensures in
+    (omega (arith, o .roomy, v .0), omega (arith, v .2 .lowest .one, o .few), omega (arith, q .names, all-at (q .place) (o .low) (q .inside), o .few-nodes))
 
-add-row-best : tie.Need-add-row-best Inv-loop μ-loop
-add-row-best c = omega arith
-
-mul-row-best : tie.Need-mul-row-best Inv-loop μ-loop
-mul-row-best c = omega arith
-
-sub-row-best : tie.Need-sub-row-best Inv-loop μ-loop
-sub-row-best c = omega arith
-
-part-row-best-start : tie.Need-part-row-best-start Inv-loop μ-loop
-part-row-best-start c = omega arith
-
-part-row-best-end : tie.Need-part-row-best-end Inv-loop μ-loop
-part-row-best-end c = omega arith
-
-row-best-requires : tie.Need-row-best-requires Inv-loop μ-loop
-row-best-requires c κs =
-    let p = c .before .before .before .before .before .before .before .before .pre in
-    let l = c .before .before .before .loop in
-    (rw tail-is (all-drop (l .i + 1) (p .0)), all-at (l .i) (p .0) (omega arith), l .inv .low-in, l .inv .high-in)
-
-add-i : tie.Need-add-i Inv-loop μ-loop
-add-i c = omega arith
+choose-requires-2 : tie.Need-choose-requires-2 Inv-loop μ-loop
+choose-requires-2 c κs = (let o = c .before .before .before .before .before .before .before .before .before .before .before .before .before .before .before .pre in (omega (arith, o .roomy, c .before .before .before .before .before .before .before .before .before .loop .inv .0, c .before .before .rows .given), o .two, o .few))
 
 loop-less : tie.Need-loop-less Inv-loop μ-loop
-loop-less c = omega arith
+loop-less c =
+    let o = c .before .before .before .before .before .before .before .before .before .before .before .before .before .before .before .before .pre in
+    let v = c .before .before .before .before .before .before .before .before .before .before .loop .inv in
+    let q = c .before .before .before .before .before .before .partner .ensures in
+    let g = c .before .before .before .before .give .ensures in
+    gone-less (now (c .before .before .before .before .before .before .before .before .before .before .before .before .before .before .before .before .args .live)) (c .before .before .before .before .before .before .before .before .before .before .loop .rows) (c .before .before .before .before .give .last .0) (length (now (c .before .before .before .before .before .before .before .before .before .before .before .before .before .before .before .before .args .live)) - 1) (c .before .before .before .before .before .before .before .before .before .before .loop .c .row) (q .place) (v .2 .lowest .one)
+    (missing (now (c .before .before .before .before .before .before .before .before .before .before .before .before .before .before .before .before .args .live)) (rowAt (c .before .before .before .before .before .before .before .before .before .before .loop .rows) (c .before .before .before .before .before .before .before .before .before .before .loop .c .row) .at) (v .2 .place) (c .before .before .before .before .before .before .before .before .if1 .taken)) (q .inside) (sym (q .names) ∙ sym (ap (λ (r : Row). r .at) (g .here))) (λ t h n. ap (λ (r : Row). r .at) (g .others t (omega (arith, o .few)) n))
 
 loop-again : tie.Need-loop-again Inv-loop μ-loop
 loop-again c =
-    let e = c .row-best .ensures in
-    rows-turn (c .row-best .result) (c .before .before .before .before .loop .inv) (omega arith) (rw tail-is at (e .0)) (e .1) (e .2)
+    let o = c .before .before .before .before .before .before .before .before .before .before .before .before .before .before .before .before .pre in
+    let v = c .before .before .before .before .before .before .before .before .before .before .loop .inv in
+    let g = c .before .before .before .before .give .ensures in (
+      c .before .before .before .rows .given ∙ v .0,
+      λ m b w. right-mend (o .rising) (v .1 m b w) b (c .before .before .before .before .before .before .partner .ensures) (λ t h n. g .others t (omega (arith, o .few)) n) (g .here),
+      c .choose2 .ensures,
+    )
+
+mul-t19 : tie.Need-mul-t19 Inv-loop μ-loop
+mul-t19 c = omega (arith, c .before .before .loop .inv .2 .lowest .one, c .before .before .before .before .before .before .before .before .pre .few, hit-at (now (c .before .before .before .before .before .before .before .before .args .live)) (rowAt (c .before .before .loop .rows) (c .before .before .loop .c .row) .at) (c .before .before .loop .inv .2 .place) (c .if1 .left) .0)
+
+shared-slice-read-t21 : tie.Need-shared-slice-read-t21 Inv-loop μ-loop
+shared-slice-read-t21 c = omega (arith, c .before .before .before .loop .inv .2 .lowest .one)
+
+mul-t22 : tie.Need-mul-t22 Inv-loop μ-loop
+mul-t22 c = omega (arith, c .before .before .before .loop .inv .2 .lowest .one, c .before .before .before .before .before .before .before .before .before .pre .few, hit-at (now (c .before .before .before .before .before .before .before .before .before .args .live)) (rowAt (c .before .before .before .loop .rows) (c .before .before .before .loop .c .row) .at) (c .before .before .before .loop .inv .2 .place) (c .before .if1 .left) .0)
+
+shared-slice-read-t24 : tie.Need-shared-slice-read-t24 Inv-loop μ-loop
+shared-slice-read-t24 c = hit-at (now (c .before .before .before .before .before .before .before .before .before .before .args .live)) (rowAt (c .before .before .before .before .loop .rows) (c .before .before .before .before .loop .c .row) .at) (c .before .before .before .before .loop .inv .2 .place) (c .before .before .if1 .left) .0
+
+same-length : tie.Need-same-length Inv-loop μ-loop
+same-length c = c .before .before .before .before .loop .inv .0
 
 returns : tie.Need-returns Inv-loop μ-loop
-returns c = rows-end (c .before .loop .inv) (omega arith)
+returns c =
+    let o = c .before .before .before .before .before .before .before .before .before .before .pre in
+    let v = c .before .before .before .before .loop .inv in
+    let h = hit-at (now (c .before .before .before .before .before .before .before .before .before .before .args .live)) (rowAt (c .before .before .before .before .loop .rows) (c .before .before .before .before .loop .c .row) .at) (v .2 .place) (c .before .before .if1 .left) in
+    record { is = right-chosen (o .rising) (v .1 (o .top) (o .low) (o .right)) (length (now (c .before .before .before .before .before .before .before .before .before .before .args .live))) refl (v .2 .lowest) (c .before .before .before .before .loop .c .with) (h .0) (h .1); right = v .1 }
 
 pub nearest-spec : {M : Type 1} → statement M
 nearest-spec =
@@ -72,18 +86,16 @@ nearest-spec =
     (tie.spec
     Inv-loop
     μ-loop
-    shared-slice-read-a
-    shared-slice-read-b
+    choose-requires
     loop-holds
-    mul-c
-    shared-slice-read-c
-    add-row-best
-    mul-row-best
-    sub-row-best
-    part-row-best-start
-    part-row-best-end
-    row-best-requires
-    add-i
+    partner-requires
+    give-requires
+    choose-requires-2
     loop-less
     loop-again
+    mul-t19
+    shared-slice-read-t21
+    mul-t22
+    shared-slice-read-t24
+    same-length
     returns)

@@ -1,0 +1,164 @@
+-- The list of rows: what a write changes, and what a run of them does.
+use mathlib.Core.Path.{_≡_, refl, sym, _∙_, ap}
+use mathlib.Core.Bool.{Bool, true, false, cond}
+use mathlib.Core.List.{List}
+use Prim.Native.Nat.{ℕ, zero, suc, _+_, _*_, _≤_, _<_}
+use native.Mathlib.Omega.{arith}
+use borrow.Author.Tests.{eqb-true, eqb-false, lt-ltb, le-ltb}
+use lib.Dec.{eqb, ltb}
+use lib.ListN.{length, getD, set, length-set}
+use lib.Seq.{getD-set-same, getD-set-other}
+use Rattle.plane.specs.Measures.{keptAs}
+use Rattle.plane.specs.declared.boxes.Box.{Box}
+use Rattle.nearest.specs.Rows.{Row, rowAt, Roomy, span, given, held, Sets, Holds, Boxes, Drops, skip}
+
+-- ---- the six numbers of a row, counted
+abbrev pub place : ℕ → ℕ → ℕ
+place zero t = t
+place (suc c) t = 512 * suc c + t
+
+place-is : (c t : ℕ) → place c t ≡ 512 * c + t
+place-is zero t = omega arith
+place-is (suc c) t = refl
+
+abbrev pub num : List ℕ → ℕ → ℕ → ℕ
+num rows t c = getD rows (place c t) 0
+
+abbrev pub rowOf : (ℕ → ℕ) → Row
+rowOf f = record { box = record { lu = keptAs (f 0); hu = keptAs (f 1); lv = keptAs (f 2); hv = keptAs (f 3) }; far = f 4; at = f 5 }
+
+-- number c is now x
+abbrev pub put : ℕ → ℕ → (ℕ → ℕ) → ℕ → ℕ
+put c x f d = cond (eqb d c) x (f d)
+
+-- row t has now these numbers, and the others are as they were
+pub record Wrote (t : ℕ) (f : ℕ → ℕ) (old new : List ℕ) : Type 0 where
+  pub room : Roomy new
+  pub inside : t < 512
+  pub here : (c : ℕ) → c < 6 → num new t c ≡ f c
+  pub others : (c s : ℕ) → c < 6 → s < 512 → (s ≡ t → ⊥) → num new s c ≡ num old s c
+
+pub wrote-begin : (rows : List ℕ) (t : ℕ) → Roomy rows → t < 512 → Wrote t (num rows t) rows rows
+wrote-begin rows t r h = record { room = r; inside = h; here = λ c l. refl; others = λ c s l g n. refl }
+
+-- one more number is written
+pub wrote-more : (c x : ℕ) {t : ℕ} {f : ℕ → ℕ} {old mid : List ℕ} → c < 6 → Wrote t f old mid → Wrote t (put c x f) old (set mid (place c t) x)
+wrote-more c x {t} {f} {old} {mid} h w =
+    record {
+      room = simp length-set (w .room);
+      inside = w .inside;
+      here = λ d l. go d l (eqb d c) refl;
+      others = λ d s l g n. getD-set-other mid (place c t) (place d s) x 0 (λ e. n (omega (arith, w .inside, e, place-is c t, place-is d s))) ∙ w .others d s l g n;
+    }
+  where
+    go : (d : ℕ) → d < 6 → (q : Bool) → eqb d c ≡ q → num (set mid (place c t) x) t d ≡ cond q x (f d)
+    go d l true e = let p = eqb-true d c e in rw p (getD-set-same mid (place c t) x 0 (omega (arith, w .inside, w .room, place-is c t)))
+    go d l false e = let p = eqb-false d c e in getD-set-other mid (place c t) (place d t) x 0 (λ q. p (omega (arith, q, place-is c t, place-is d t))) ∙ w .here d l
+
+-- one more number is written, that of another row
+pub wrote-copy : (c s : ℕ) {t : ℕ} {f : ℕ → ℕ} {old mid : List ℕ} → c < 6 → s < 512 → (s ≡ t → ⊥) → Wrote t f old mid → Wrote t (put c (num old s c) f) old (set mid (place c t) (num mid s c))
+wrote-copy c s {t} {f} {old} {mid} h g n w = rw (w .others c s h g n) (wrote-more c (num old s c) h w)
+
+-- the row as a whole
+pub wrote-row : {t : ℕ} {f : ℕ → ℕ} {old new : List ℕ} → Wrote t f old new → Sets t (rowOf f) old new
+wrote-row {t} {f} {old} {new} w =
+    record {
+      here = rw (w .here 0 (omega arith), w .here 1 (omega arith), w .here 2 (omega arith), w .here 3 (omega arith), w .here 4 (omega arith), w .here 5 (omega arith));
+      others = λ s l n. rw (w .others 0 s (omega arith) l n, w .others 1 s (omega arith) l n, w .others 2 s (omega arith) l n, w .others 3 s (omega arith) l n, w .others 4 s (omega arith) l n, w .others 5 s (omega arith) l n);
+    }
+
+-- a box in four writes
+pub wrote-box : (b : Box) (rows : List ℕ) (t : ℕ) → Roomy rows → t < 512 → Boxes t b rows (set (set (set (set rows t (b .lu .0)) (512 + t) (b .hu .0)) (1024 + t) (b .lv .0)) (1536 + t) (b .hv .0))
+wrote-box b rows t r h =
+    let w =
+    wrote-row
+    (wrote-more 3 (b .hv .0) (omega arith)
+    (wrote-more 2 (b .lv .0) (omega arith) (wrote-more 1 (b .hu .0) (omega arith) (wrote-more 0 (b .lu .0) (omega arith) (wrote-begin rows t r h))))) in
+    record { here = ap (λ (x : Row). x .box) (w .here); others = w .others }
+
+-- a row that is held, in two writes
+pub wrote-held : (b : Box) (m : ℕ) (rows : List ℕ) (t : ℕ) {e x y : ℕ} → Roomy rows → t < 512 → e ≡ span (rowAt rows t) b → x ≡ cond (ltb e (num rows t 4)) e (num rows t 4) → y ≡ cond (ltb e (num rows t 4)) m (num rows t 5) → Sets t (held b m (rowAt rows t)) rows (set (set rows (2048 + t) x) (2560 + t) y)
+unfolding held
+wrote-held b m rows t r h p u v = rw (u, v, p) (go (ltb (span (rowAt rows t) b) (num rows t 4)))
+  where
+    go : (q : Bool) → Sets t (cond q (given (rowAt rows t) m (span (rowAt rows t) b)) (rowAt rows t)) rows (set (set rows (2048 + t) (cond q (span (rowAt rows t) b) (num rows t 4))) (2560 + t) (cond q m (num rows t 5)))
+    go true = wrote-row (wrote-more 5 m (omega arith) (wrote-more 4 (span (rowAt rows t) b) (omega arith) (wrote-begin rows t r h)))
+    go false = wrote-row (wrote-more 5 (num rows t 5) (omega arith) (wrote-more 4 (num rows t 4) (omega arith) (wrote-begin rows t r h)))
+
+-- the next row in six writes
+abbrev pub copy : ℕ → List ℕ → ℕ → List ℕ
+copy c rows t = set rows (place c t) (num rows (t + 1) c)
+
+pub wrote-next : (rows : List ℕ) (t : ℕ) → Roomy rows → t + 1 < 512 → Sets t (rowAt rows (t + 1)) rows (copy 5 (copy 4 (copy 3 (copy 2 (copy 1 (copy 0 rows t) t) t) t) t) t)
+wrote-next rows t r h =
+    wrote-row (wrote-copy 5 (t + 1) (omega arith) h n
+    (wrote-copy 4 (t + 1) (omega arith) h n
+    (wrote-copy 3 (t + 1) (omega arith) h n
+    (wrote-copy 2 (t + 1) (omega arith) h n
+    (wrote-copy 1 (t + 1) (omega arith) h n
+    (wrote-copy 0 (t + 1) (omega arith) h n
+    (wrote-begin rows t r (omega arith))))))))
+  where
+    n : t + 1 ≡ t → ⊥
+    n e = omega arith
+
+-- ---- the first k rows, held one after the other
+pub record Holding (b : Box) (m : ℕ) (old new : List ℕ) (t : ℕ) : Type 0 where
+  pub size : length new ≡ length old
+  pub holds : Holds t b m old new
+
+pub holding-begin : {b : Box} {m : ℕ} (rows : List ℕ) → Holding b m rows rows 0
+holding-begin rows = record { size = refl; holds = record { first = λ t h. absurd (omega arith); others = λ t h l. refl } }
+
+pub holding-turn : {b : Box} {m : ℕ} {old mid new : List ℕ} {t : ℕ} → Holding b m old mid t → t < 512 → length new ≡ length mid → Sets t (held b m (rowAt mid t)) mid new → Holding b m old new (t + 1)
+holding-turn {b} {m} {old} {mid} {new} {t} v h e w =
+    record {
+      size = e ∙ v .size;
+      holds = record { first = λ s l. go s l (eqb s t) refl; others = λ s l g. w .others s g (λ q. omega (arith, q)) ∙ v .holds .others s (omega arith) g };
+    }
+  where
+    go : (s : ℕ) → s < t + 1 → (q : Bool) → eqb s t ≡ q → rowAt new s ≡ held b m (rowAt old s)
+    go s l true q =
+        let p = eqb-true s t q in
+        ap (rowAt new) p ∙ w .here ∙ ap (held b m) (v .holds .others t (omega arith) h) ∙ ap (λ (x : ℕ). held b m (rowAt old x)) (sym p)
+    go s l false q =
+        let p = eqb-false s t q in
+        w .others s (omega arith) p ∙ v .holds .first s (omega (arith, p))
+
+-- ---- rows that move up, from a on, as far as t
+pub record Moving (a : ℕ) (old new : List ℕ) (t : ℕ) : Type 0 where
+  pub size : length new ≡ length old
+  pub from : a ≤ t
+  pub moved : (s : ℕ) → s < t → rowAt new s ≡ rowAt old (skip a s)
+  pub others : (s : ℕ) → t ≤ s → s < 512 → rowAt new s ≡ rowAt old s
+
+pub skip-before : (a s : ℕ) → s < a → skip a s ≡ s
+unfolding skip
+skip-before a s h = rw (lt-ltb s a h)
+
+pub skip-after : (a s : ℕ) → a ≤ s → skip a s ≡ suc s
+unfolding skip
+skip-after a s h = rw (le-ltb s a h)
+
+pub moving-begin : (rows : List ℕ) (a : ℕ) → Moving a rows rows a
+moving-begin rows a = record { size = refl; from = omega arith; moved = λ s h. ap (rowAt rows) (sym (skip-before a s h)); others = λ s h l. refl }
+
+pub moving-turn : {a : ℕ} {old mid new : List ℕ} {t : ℕ} → Moving a old mid t → t + 1 < 512 → length new ≡ length mid → Sets t (rowAt mid (t + 1)) mid new → Moving a old new (t + 1)
+moving-turn {a} {old} {mid} {new} {t} v h e w =
+    record {
+      size = e ∙ v .size;
+      from = omega (arith, v .from);
+      moved = λ s l. go s l (eqb s t) refl;
+      others = λ s l g. w .others s g (λ q. omega (arith, q)) ∙ v .others s (omega arith) g;
+    }
+  where
+    go : (s : ℕ) → s < t + 1 → (q : Bool) → eqb s t ≡ q → rowAt new s ≡ rowAt old (skip a s)
+    go s l true q =
+        let p = eqb-true s t q in
+        ap (rowAt new) p ∙ w .here ∙ v .others (t + 1) (omega arith) h ∙ ap (rowAt old) (let e : t + 1 ≡ skip a t = omega (arith, skip-after a t (v .from)) in e) ∙ ap (λ (x : ℕ). rowAt old (skip a x)) (sym p)
+    go s l false q =
+        let p = eqb-false s t q in
+        w .others s (omega arith) p ∙ v .moved s (omega (arith, p))
+
+pub moving-end : {k a : ℕ} {old new : List ℕ} {t : ℕ} → Moving a old new t → k ≤ t + 1 → Drops k a old new
+moving-end v h = record { rest = λ s l. v .moved s (omega (arith, h)) }

@@ -1,0 +1,143 @@
+-- For the code alone: what is kept beside each live node, packed as they are. One list of numbers has six of them for each, 512 apart.
+use mathlib.Core.Path.{_≡_}
+use mathlib.Core.Bool.{cond}
+use mathlib.Core.List.{List}
+use Prim.Native.Nat.{ℕ, suc, _+_, _-_, _≤_, _<_}
+use lib.Dec.{ltb, eqb}
+use lib.ListN.{length, getD}
+use Rattle.plane.specs.Measures.{keptAs}
+use Rattle.plane.specs.Boxes.{hullOf, diamOf}
+use Rattle.plane.specs.declared.boxes.Box.{Box}
+use Rattle.lists.specs.First.{first}
+use Rattle.nearest.specs.declared.pair.Near.{Near}
+use Rattle.nearest.specs.declared.pair.Pair.{Pair}
+use Rattle.nearest.specs.declared.best.Choice.{Choice}
+use Rattle.nearest.specs.Nearest.{best}
+use Rattle.nearest.specs.Boxes.{boxAt, reach}
+use Rattle.nearest.specs.Live.{Rising, Below}
+
+-- the box of a live node, a partner among the later ones, and how far that one is
+pub record Row : Type 0 where
+  pub box : Box
+  pub far : ℕ
+  pub at : ℕ
+
+-- row t of the list
+abbrev pub rowAt : List ℕ → ℕ → Row
+rowAt rows t =
+    record {
+      box = record { lu = keptAs (getD rows t 0); hu = keptAs (getD rows (512 + t) 0); lv = keptAs (getD rows (1024 + t) 0); hv = keptAs (getD rows (1536 + t) 0) };
+      far = getD rows (2048 + t) 0;
+      at = getD rows (2560 + t) 0;
+    }
+
+-- the list has room for 512 rows
+abbrev pub Roomy : List ℕ → Type 0
+Roomy rows = 3072 ≤ length rows
+
+-- the diameter of a row's union with a box
+unfoldable pub span : Row → Box → ℕ
+span r b = diamOf (hullOf (r .box) b)
+
+-- a row with another partner
+abbrev pub given : Row → ℕ → ℕ → Row
+given r j w = record { box = r .box; far = w; at = j }
+
+-- a row held against node m with box b: m is its partner only where that is less far
+unfoldable pub held : Box → ℕ → Row → Row
+held b m r = cond (ltb (span r b) (r .far)) (given r m (span r b)) r
+
+-- row t is now r, and the others are as they were
+pub record Sets (t : ℕ) (r : Row) (old new : List ℕ) : Type 0 where
+  pub here : rowAt new t ≡ r
+  pub others : (s : ℕ) → s < 512 → (s ≡ t → ⊥) → rowAt new s ≡ rowAt old s
+
+-- where row t came from, once row a has left and those after it moved up
+unfoldable pub skip : ℕ → ℕ → ℕ
+skip a t = cond (ltb t a) t (suc t)
+
+-- of k rows, the nearest partner is d away
+pub record Least (rows : List ℕ) (k d : ℕ) : Type 0 where
+  pub place : ℕ
+  pub inside : place < k
+  pub is : rowAt rows place .far ≡ d
+  pub least : (s : ℕ) → s < k → d ≤ rowAt rows s .far
+
+-- the first k rows are held against node m with box b, and the others are as they were
+pub record Holds (k : ℕ) (b : Box) (m : ℕ) (old new : List ℕ) : Type 0 where
+  pub first : (t : ℕ) → t < k → rowAt new t ≡ held b m (rowAt old t)
+  pub others : (t : ℕ) → k ≤ t → t < 512 → rowAt new t ≡ rowAt old t
+
+-- row t's box is now b, and the other rows are as they were
+pub record Boxes (t : ℕ) (b : Box) (old new : List ℕ) : Type 0 where
+  pub here : rowAt new t .box ≡ b
+  pub others : (s : ℕ) → s < 512 → (s ≡ t → ⊥) → rowAt new s ≡ rowAt old s
+
+-- of k rows, row a has left, and those after it moved up
+pub record Drops (k a : ℕ) (old new : List ℕ) : Type 0 where
+  pub rest : (t : ℕ) → t + 1 < k → rowAt new t ≡ rowAt old (skip a t)
+
+-- of k rows, a is the first of those whose partner is nearest
+pub record Lowest (rows : List ℕ) (k a : ℕ) : Type 0 where
+  pub one : a < k
+  pub least : (s : ℕ) → s < k → rowAt rows a .far ≤ rowAt rows s .far
+  pub first : (s : ℕ) → s < a → rowAt rows a .far < rowAt rows s .far
+
+-- of the live nodes after row a, the first of the nearest
+pub record Nearest (rows live : List ℕ) (a : ℕ) (r : Near) : Type 0 where
+  pub place : ℕ
+  pub later : a < place
+  pub inside : place < length live
+  pub names : r .at ≡ getD live place 0
+  pub far : r .far ≡ span (rowAt rows a) (rowAt rows place .box)
+  pub least : (t : ℕ) → a < t → t < length live → r .far ≤ span (rowAt rows a) (rowAt rows t .box)
+  pub first : (t : ℕ) → a < t → t < place → r .far < span (rowAt rows a) (rowAt rows t .box)
+
+-- what is kept beside each of the live nodes is right: its box, and a partner that is no farther than any later live node, and no later than one as far.
+-- The partner may be gone: then it is nearer than what is left.
+pub record Right (bs live : List ℕ) (m : ℕ) (row : ℕ → Row) : Type 0 where
+  pub box : (t : ℕ) → t < length live → row t .box ≡ boxAt bs (getD live t 0)
+  pub near : (s t : ℕ) → s < t → t < length live → row s .far ≤ reach bs (getD live s 0) (getD live t 0)
+  pub first : (s t : ℕ) → s < t → t < length live → row s .far ≡ reach bs (getD live s 0) (getD live t 0) → row s .at ≤ getD live t 0
+  pub named : (t : ℕ) → suc t < length live → (row t .far ≡ reach bs (getD live t 0) (row t .at)) × (getD live t 0 < row t .at) × (row t .at < m)
+
+-- where node x stands among the live ones; how many there are, where it is not live
+abbrev pub placeOf : List ℕ → ℕ → ℕ
+placeOf live x = first (λ i. eqb (getD live i 0) x) 0 (length live)
+
+-- live nodes beside which what is kept is right
+pub record Caching (bs live rows : List ℕ) : Type 0 where
+  pub top : ℕ
+  pub right : Right bs live top (rowAt rows)
+  pub rising : Rising live
+  pub low : Below top live
+  pub few-nodes : top ≤ 1023
+  pub two : 2 ≤ length live
+  pub few : length live ≤ 512
+  pub roomy : Roomy rows
+
+-- the row to join, and where its partner stands, if it does
+pub record Chooses (live rows : List ℕ) (c : Choice) : Type 0 where
+  pub lowest : Lowest rows (length live - 1) (c .row)
+  pub place : c .with ≡ placeOf live (rowAt rows (c .row) .at)
+
+-- the best pair, and what is kept is right as before
+pub record Picks (bs live rows : List ℕ) (r : Pair) (rows′ : List ℕ) : Type 0 where
+  pub is : r ≡ best (reach bs) live
+  pub right : (m : ℕ) → Below m live → Right bs live m (rowAt rows) → Right bs live m (rowAt rows′)
+
+-- the two rows of a pair have left, and those after them moved up
+pub record Closed (live : List ℕ) (p : Pair) (rows rows′ : List ℕ) : Type 0 where
+  pub low : ℕ
+  pub high : ℕ
+  pub up : low < high
+  pub inside : high < length live
+  pub is-low : getD live low 0 ≡ p .low
+  pub is-high : getD live high 0 ≡ p .high
+  pub moved : (t : ℕ) → t + 2 < length live → rowAt rows′ t ≡ rowAt rows (skip high (skip low t))
+
+-- node m with box b has entered after k rows: each was held against it, and the last has no other partner
+pub record Entered (k : ℕ) (b : Box) (m : ℕ) (rows rows′ : List ℕ) : Type 0 where
+  pub holds : (t : ℕ) → t + 1 < k → rowAt rows′ t ≡ held b m (rowAt rows t)
+  pub gives : (t : ℕ) → t + 1 ≡ k → rowAt rows′ t ≡ given (rowAt rows t) m (span (rowAt rows t) b)
+  pub puts : rowAt rows′ k .box ≡ b

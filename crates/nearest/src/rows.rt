@@ -1,0 +1,100 @@
+// What is kept beside each live node, packed as they are. One list has six lists of 512 numbers one after the other: least u, greatest u, least v, greatest v, how far, partner. So the same work on many rows is straight code.
+ghost use mathlib.Core.Path.{_≡_};
+ghost use Prim.Native.Nat.{_+_, _≤_, _<_};
+ghost use Rattle.nearest.specs.Rows.{rowAt, Roomy, span, given, held, Sets, Holds, Boxes, Drops};
+use crate::pair::Near;
+use plane::boxes;
+use plane::boxes::Box;
+use plane::measure;
+
+// The box of row t.
+pub fn box_in(rows: &[u32], t: usize) -> Box
+    requires { ⌜ Roomy (now rows) × (t < 512) ⌝ }
+    ensures { λ r. ⌜ r ≡ rowAt (now (rows .entry)) t .box ⌝ }
+{
+    Box {
+        lu: measure::standing_for(rows[t]),
+        hu: measure::standing_for(rows[512 + t]),
+        lv: measure::standing_for(rows[1024 + t]),
+        hv: measure::standing_for(rows[1536 + t]),
+    }
+}
+
+// The diameter of row t's union with a box.
+pub fn span(rows: &[u32], t: usize, b: Box) -> u32
+    requires { ⌜ Roomy (now rows) × (t < 512) ⌝ }
+    ensures { λ r. ⌜ r ≡ span (rowAt (now (rows .entry)) t) b ⌝ }
+{
+    boxes::diameter(boxes::hull(box_in(rows, t), b))
+}
+
+// Row t, held against node m with box b. Both numbers are written in any case: so many rows at a time can be.
+fn hold_row(rows: &mut [u32], t: usize, b: Box, m: u32)
+    requires { ⌜ Roomy (now rows) × (t < 512) ⌝ }
+    ensures { λ _. ⌜ Sets t (held b m (rowAt (now (rows .entry)) t)) (now (rows .entry)) (now (rows .exit)) ⌝ }
+{
+    let e = span(rows, t, b);
+    let f = rows[2048 + t];
+    let j = rows[2560 + t];
+    let nearer = e < f;
+    rows[2048 + t] = if nearer { e } else { f };
+    rows[2560 + t] = if nearer { m } else { j };
+}
+
+// The first k rows, held against node m with box b.
+pub fn hold(rows: &mut [u32], k: usize, b: Box, m: u32)
+    requires { ⌜ Roomy (now rows) × (k ≤ 512) ⌝ }
+    ensures { λ _. ⌜ Holds k b m (now (rows .entry)) (now (rows .exit)) ⌝ }
+{
+    let mut t = 0;
+    while t < k {
+        hold_row(rows, t, b, m);
+        t += 1;
+    }
+}
+
+// Row t has another partner.
+pub fn give(rows: &mut [u32], t: usize, q: Near)
+    requires { ⌜ Roomy (now rows) × (t < 512) × (q .at < 1024) ⌝ }
+    ensures { λ _. ⌜ Sets t (given (rowAt (now (rows .entry)) t) (q .at) (q .far)) (now (rows .entry)) (now (rows .exit)) ⌝ }
+{
+    rows[2048 + t] = q.far;
+    rows[2560 + t] = q.at as u32;
+}
+
+// Row t's box. Its partner is whatever stood there.
+pub fn put_row(rows: &mut [u32], t: usize, b: Box)
+    requires { ⌜ Roomy (now rows) × (t < 512) ⌝ }
+    ensures { λ _. ⌜ Boxes t b (now (rows .entry)) (now (rows .exit)) ⌝ }
+{
+    rows[t] = measure::kept(b.lu);
+    rows[512 + t] = measure::kept(b.hu);
+    rows[1024 + t] = measure::kept(b.lv);
+    rows[1536 + t] = measure::kept(b.hv);
+}
+
+// Row t + 1 moves to t.
+fn move_up(rows: &mut [u32], t: usize)
+    requires { ⌜ Roomy (now rows) × (t + 1 < 512) ⌝ }
+    ensures { λ _. ⌜ Sets t (rowAt (now (rows .entry)) (t + 1)) (now (rows .entry)) (now (rows .exit)) ⌝ }
+{
+    let s = t + 1;
+    rows[t] = rows[s];
+    rows[512 + t] = rows[512 + s];
+    rows[1024 + t] = rows[1024 + s];
+    rows[1536 + t] = rows[1536 + s];
+    rows[2048 + t] = rows[2048 + s];
+    rows[2560 + t] = rows[2560 + s];
+}
+
+// Row a of k leaves: those after it move up.
+pub fn drop_row(rows: &mut [u32], k: usize, a: usize)
+    requires { ⌜ Roomy (now rows) × (k ≤ 512) × (a < k) ⌝ }
+    ensures { λ _. ⌜ Drops k a (now (rows .entry)) (now (rows .exit)) ⌝ }
+{
+    let mut t = a;
+    while t + 1 < k {
+        move_up(rows, t);
+        t += 1;
+    }
+}
