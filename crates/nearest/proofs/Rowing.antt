@@ -10,7 +10,7 @@ use lib.ListN.{length, getD, set, length-set}
 use lib.Seq.{getD-set-same, getD-set-other}
 use Rattle.plane.specs.Measures.{keptAs}
 use Rattle.plane.specs.declared.boxes.Box.{Box}
-use Rattle.nearest.specs.Rows.{Row, rowAt, Roomy, span, given, held, Sets, Holds, Boxes, Drops, skip}
+use Rattle.nearest.specs.Rows.{Row, rowAt, Roomy, span, given, held, Sets, Holds, SameRows, Spans, Boxes, Drops, skip}
 
 -- ---- the six numbers of a row, counted
 abbrev pub place : ℕ → ℕ → ℕ
@@ -124,6 +124,29 @@ holding-turn {b} {m} {old} {mid} {new} {t} v h e w =
     go s l false q =
         let p = eqb-false s t q in
         w .others s (omega arith) p ∙ v .holds .first s (omega (arith, p))
+
+-- ---- the unions' diameters, written beside the rows from one on, as far as t
+aside-same : (rows : List ℕ) (t x : ℕ) → SameRows rows (set rows (3072 + t) x)
+aside-same rows t x s h =
+    rw (other 0 (omega arith), other 1 (omega arith), other 2 (omega arith), other 3 (omega arith), other 4 (omega arith), other 5 (omega arith))
+  where
+    other : (c : ℕ) → c < 6 → num (set rows (3072 + t) x) s c ≡ num rows s c
+    other c l = getD-set-other rows (3072 + t) (place c s) x 0 (λ e. omega (arith, e, place-is c s))
+
+pub spans-begin : {b : Box} (rows : List ℕ) (from : ℕ) → Spans from from b rows rows
+spans-begin rows from = record { here = λ t h l. absurd (omega arith); same = λ s h. refl }
+
+pub spans-turn : {from : ℕ} {b : Box} {old mid new : List ℕ} {t : ℕ} → Spans from t b old mid → t < 512 → Roomy mid → new ≡ set mid (3072 + t) (span (rowAt mid t) b) → Spans from (t + 1) b old new
+spans-turn {from} {b} {old} {mid} {new} {t} v h r e =
+    rw e (record { here = λ s l g. go s l g (eqb s t) refl; same = λ s l. aside-same mid t (span (rowAt mid t) b) s l ∙ v .same s l })
+  where
+    go : (s : ℕ) → from ≤ s → s < t + 1 → (q : Bool) → eqb s t ≡ q → getD (set mid (3072 + t) (span (rowAt mid t) b)) (3072 + s) 0 ≡ span (rowAt old s) b
+    go s l g true q =
+        let p = eqb-true s t q in
+        rw p (getD-set-same mid (3072 + t) (span (rowAt mid t) b) 0 (omega arith) ∙ ap (λ (x : Row). span x b) (v .same t h))
+    go s l g false q =
+        let p = eqb-false s t q in
+        getD-set-other mid (3072 + t) (3072 + s) (span (rowAt mid t) b) 0 (λ z. p (omega (arith, z))) ∙ v .here s l (omega (arith, p))
 
 -- ---- rows that move up, from a on, as far as t
 pub record Moving (a : ℕ) (old new : List ℕ) (t : ℕ) : Type 0 where

@@ -1,4 +1,4 @@
--- For the code alone: what is kept beside each live node, packed as they are. One list of numbers has six of them for each, 512 apart.
+-- For the code alone: what is kept beside each live node, packed as they are. One list of numbers has six of them for each, 512 apart, and after those 512 numbers to work with.
 use mathlib.Core.Path.{_≡_}
 use mathlib.Core.Bool.{cond}
 use mathlib.Core.List.{List}
@@ -31,9 +31,9 @@ rowAt rows t =
       at = getD rows (2560 + t) 0;
     }
 
--- the list has room for 512 rows
+-- the list has room for 512 rows and a number beside each to work with
 abbrev pub Roomy : List ℕ → Type 0
-Roomy rows = 3072 ≤ length rows
+Roomy rows = 3584 ≤ length rows
 
 -- the diameter of a row's union with a box
 unfoldable pub span : Row → Box → ℕ
@@ -56,12 +56,18 @@ pub record Sets (t : ℕ) (r : Row) (old new : List ℕ) : Type 0 where
 unfoldable pub skip : ℕ → ℕ → ℕ
 skip a t = cond (ltb t a) t (suc t)
 
--- of k rows, the nearest partner is d away
-pub record Least (rows : List ℕ) (k d : ℕ) : Type 0 where
+-- of k numbers of a list from a place on, the least is d
+pub record Least (ls : List ℕ) (from k d : ℕ) : Type 0 where
   pub place : ℕ
   pub inside : place < k
-  pub is : rowAt rows place .far ≡ d
-  pub least : (s : ℕ) → s < k → d ≤ rowAt rows s .far
+  pub is : getD ls (from + place) 0 ≡ d
+  pub least : (s : ℕ) → s < k → d ≤ getD ls (from + s) 0
+
+-- of k numbers of a list from a place on, number a is the first of the least
+pub record FirstLeast (ls : List ℕ) (from k a : ℕ) : Type 0 where
+  pub one : a < k
+  pub least : (s : ℕ) → s < k → getD ls (from + a) 0 ≤ getD ls (from + s) 0
+  pub first : (s : ℕ) → s < a → getD ls (from + a) 0 < getD ls (from + s) 0
 
 -- the first k rows are held against node m with box b, and the others are as they were
 pub record Holds (k : ℕ) (b : Box) (m : ℕ) (old new : List ℕ) : Type 0 where
@@ -77,11 +83,18 @@ pub record Boxes (t : ℕ) (b : Box) (old new : List ℕ) : Type 0 where
 pub record Drops (k a : ℕ) (old new : List ℕ) : Type 0 where
   pub rest : (t : ℕ) → t + 1 < k → rowAt new t ≡ rowAt old (skip a t)
 
+-- no row changed
+abbrev pub SameRows : List ℕ → List ℕ → Type 0
+SameRows old new = (s : ℕ) → s < 512 → rowAt new s ≡ rowAt old s
+
+-- beside each row from one to before another stands the diameter of its union with a box, and no row changed
+pub record Spans (from to : ℕ) (b : Box) (old new : List ℕ) : Type 0 where
+  pub here : (t : ℕ) → from ≤ t → t < to → getD new (3072 + t) 0 ≡ span (rowAt old t) b
+  pub same : SameRows old new
+
 -- of k rows, a is the first of those whose partner is nearest
-pub record Lowest (rows : List ℕ) (k a : ℕ) : Type 0 where
-  pub one : a < k
-  pub least : (s : ℕ) → s < k → rowAt rows a .far ≤ rowAt rows s .far
-  pub first : (s : ℕ) → s < a → rowAt rows a .far < rowAt rows s .far
+abbrev pub Lowest : List ℕ → ℕ → ℕ → Type 0
+Lowest rows k a = FirstLeast rows 2048 k a
 
 -- of the live nodes after row a, the first of the nearest
 pub record Nearest (rows live : List ℕ) (a : ℕ) (r : Near) : Type 0 where

@@ -71,7 +71,7 @@ pub fn order_sound(xs: &[i32], ys: &[i32], js: &mut [u16])
     let n = xs.len();
     let mut bs = [0u32; 4092];
     let mut live = [0usize; 512];
-    let mut rows = [0u32; 3072];
+    let mut rows = [0u32; 3584];
     table::put_sinks(xs, ys, &mut bs);
     live::begin(&mut live[..n]);
     keep::begin(&bs, &mut rows, n);

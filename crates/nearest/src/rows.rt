@@ -1,7 +1,8 @@
-// What is kept beside each live node, packed as they are. One list has six lists of 512 numbers one after the other: least u, greatest u, least v, greatest v, how far, partner. So the same work on many rows is straight code.
+// What is kept beside each live node, packed as they are. One list has seven lists of 512 numbers one after the other: least u, greatest u, least v, greatest v, how far, partner, and one to work with. So the same work on many rows is straight code.
 ghost use mathlib.Core.Path.{_≡_};
 ghost use Prim.Native.Nat.{_+_, _≤_, _<_};
-ghost use Rattle.nearest.specs.Rows.{rowAt, Roomy, span, given, held, Sets, Holds, Boxes, Drops};
+ghost use lib.ListN.{set};
+ghost use Rattle.nearest.specs.Rows.{rowAt, Roomy, span, given, held, Sets, Holds, Spans, Boxes, Drops};
 use crate::pair::Near;
 use plane::boxes;
 use plane::boxes::Box;
@@ -49,6 +50,27 @@ pub fn hold(rows: &mut [u32], k: usize, b: Box, m: u32)
     let mut t = 0;
     while t < k {
         hold_row(rows, t, b, m);
+        t += 1;
+    }
+}
+
+// The diameter of row t's union with a box, beside the row.
+fn put_span(rows: &mut [u32], t: usize, b: Box)
+    requires { ⌜ Roomy (now rows) × (t < 512) ⌝ }
+    ensures { λ _. ⌜ now (rows .exit) ≡ set (now (rows .entry)) (3072 + t) (span (rowAt (now (rows .entry)) t) b) ⌝ }
+{
+    let e = span(rows, t, b);
+    rows[3072 + t] = e;
+}
+
+// The diameters of the unions with a box, beside each of the rows from one to before another. They are written first and looked at after: so many rows at a time can be.
+pub fn spans(rows: &mut [u32], from: usize, to: usize, b: Box)
+    requires { ⌜ Roomy (now rows) × (from ≤ to) × (to ≤ 512) ⌝ }
+    ensures { λ _. ⌜ Spans from to b (now (rows .entry)) (now (rows .exit)) ⌝ }
+{
+    let mut t = from;
+    while t < to {
+        put_span(rows, t, b);
         t += 1;
     }
 }

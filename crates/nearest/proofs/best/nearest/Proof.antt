@@ -4,7 +4,7 @@ use native.Mathlib.Omega.{arith}
 use denote.Ref.{now}
 use lib.ListN.{length}
 use Rattle.nearest.specs.Live.{Below}
-use Rattle.nearest.specs.Rows.{Row, rowAt, Right, Chooses}
+use Rattle.nearest.specs.Rows.{Row, rowAt, given, Right, Chooses}
 use Rattle.nearest.proofs.Members.{all-at}
 use Rattle.nearest.proofs.Picking.{right-chosen, right-mend, missing, hit-at}
 use Rattle.nearest.proofs.Ending.{gone, gone-less}
@@ -31,30 +31,34 @@ partner-requires c κs =
 
 give-requires : tie.Need-give-requires Inv-loop μ-loop
 give-requires c κs =
-    let o = c .before .before .before .before .before .before .before .before .before .before .before .pre in
-    let v = c .before .before .before .before .before .loop .inv in
-    let q = c .before .partner .ensures in
-    (omega (arith, o .roomy, v .0), omega (arith, v .2 .lowest .one, o .few), omega (arith, q .names, all-at (q .place) (o .low) (q .inside), o .few-nodes))
+    let o = c .before .before .before .before .before .before .before .before .before .before .before .before .before .pre in
+    let v = c .before .before .before .before .before .before .before .loop .inv in
+    let q = c .before .before .before .partner .ensures .0 in
+    (omega (arith, o .roomy, v .0, c .before .before .rows .given), omega (arith, v .2 .lowest .one, o .few), omega (arith, q .names, all-at (q .place) (o .low) (q .inside), o .few-nodes))
 
 choose-requires-2 : tie.Need-choose-requires-2 Inv-loop μ-loop
-choose-requires-2 c κs = (let o = c .before .before .before .before .before .before .before .before .before .before .before .before .before .before .before .pre in (omega (arith, o .roomy, c .before .before .before .before .before .before .before .before .before .loop .inv .0, c .before .before .rows .given), o .two, o .few))
+choose-requires-2 c κs = (let o = c .before .before .before .before .before .before .before .before .before .before .before .before .before .before .before .before .before .pre in (omega (arith, o .roomy, c .before .before .before .before .before .before .before .before .before .before .before .loop .inv .0, c .before .before .before .before .before .before .rows .given, c .before .before .rows2 .given), o .two, o .few))
 
 loop-less : tie.Need-loop-less Inv-loop μ-loop
 loop-less c =
-    let o = c .before .before .before .before .before .before .before .before .before .before .before .before .before .before .before .before .pre in
-    let v = c .before .before .before .before .before .before .before .before .before .before .loop .inv in
-    let q = c .before .before .before .before .before .before .partner .ensures in
+    let o = c .before .before .before .before .before .before .before .before .before .before .before .before .before .before .before .before .before .before .pre in
+    let v = c .before .before .before .before .before .before .before .before .before .before .before .before .loop .inv in
+    let q = c .before .before .before .before .before .before .before .before .partner .ensures in
     let g = c .before .before .before .before .give .ensures in
-    gone-less (now (c .before .before .before .before .before .before .before .before .before .before .before .before .before .before .before .before .args .live)) (c .before .before .before .before .before .before .before .before .before .before .loop .rows) (c .before .before .before .before .give .last .0) (length (now (c .before .before .before .before .before .before .before .before .before .before .before .before .before .before .before .before .args .live)) - 1) (c .before .before .before .before .before .before .before .before .before .before .loop .c .row) (q .place) (v .2 .lowest .one)
-    (missing (now (c .before .before .before .before .before .before .before .before .before .before .before .before .before .before .before .before .args .live)) (rowAt (c .before .before .before .before .before .before .before .before .before .before .loop .rows) (c .before .before .before .before .before .before .before .before .before .before .loop .c .row) .at) (v .2 .place) (c .before .before .before .before .before .before .before .before .if1 .taken)) (q .inside) (sym (q .names) ∙ sym (ap (λ (r : Row). r .at) (g .here))) (λ t h n. ap (λ (r : Row). r .at) (g .others t (omega (arith, o .few)) n))
+    gone-less (now (c .before .before .before .before .before .before .before .before .before .before .before .before .before .before .before .before .before .before .args .live)) (c .before .before .before .before .before .before .before .before .before .before .before .before .loop .rows) (c .before .before .before .before .give .last .0) (length (now (c .before .before .before .before .before .before .before .before .before .before .before .before .before .before .before .before .before .before .args .live)) - 1) (c .before .before .before .before .before .before .before .before .before .before .before .before .loop .c .row) (q .0 .place) (v .2 .lowest .one)
+    (missing (now (c .before .before .before .before .before .before .before .before .before .before .before .before .before .before .before .before .before .before .args .live)) (rowAt (c .before .before .before .before .before .before .before .before .before .before .before .before .loop .rows) (c .before .before .before .before .before .before .before .before .before .before .before .before .loop .c .row) .at) (v .2 .place) (c .before .before .before .before .before .before .before .before .before .before .if1 .taken)) (q .0 .inside) (sym (q .0 .names) ∙ sym (ap (λ (r : Row). r .at) (g .here)))
+    (λ t h n. ap (λ (r : Row). r .at) (g .others t (omega (arith, o .few)) n ∙ q .1 t (omega (arith, o .few))))
 
 loop-again : tie.Need-loop-again Inv-loop μ-loop
 loop-again c =
-    let o = c .before .before .before .before .before .before .before .before .before .before .before .before .before .before .before .before .pre in
-    let v = c .before .before .before .before .before .before .before .before .before .before .loop .inv in
-    let g = c .before .before .before .before .give .ensures in (
-      c .before .before .before .rows .given ∙ v .0,
-      λ m b w. right-mend (o .rising) (v .1 m b w) b (c .before .before .before .before .before .before .partner .ensures) (λ t h n. g .others t (omega (arith, o .few)) n) (g .here),
+    let o = c .before .before .before .before .before .before .before .before .before .before .before .before .before .before .before .before .before .before .pre in
+    let v = c .before .before .before .before .before .before .before .before .before .before .before .before .loop .inv in
+    let q = c .before .before .before .before .before .before .before .before .partner .ensures in
+    let n = c .before .before .before .before .before .before .before .before .partner .result in
+    let g = c .before .before .before .before .give .ensures in
+    let few = o .few in (
+      c .before .before .before .rows2 .given ∙ c .before .before .before .before .before .before .before .rows .given ∙ v .0,
+      λ m b w. right-mend (o .rising) (v .1 m b w) b (q .0) (λ t h z. g .others t (omega arith) z ∙ q .1 t (omega arith)) (g .here ∙ ap (λ (r : Row). given r (n .at) (n .far)) (q .1 (c .before .before .before .before .before .before .before .before .before .before .before .before .loop .c .row) (omega (arith, v .2 .lowest .one)))),
       c .choose2 .ensures,
     )
 

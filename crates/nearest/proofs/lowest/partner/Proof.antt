@@ -1,93 +1,66 @@
-use Prim.Native.Nat.{_+_, _-_, _≤_}
-use mathlib.Core.Logic.{⊎-elim}
-use native.Mathlib.Omega.{arith}
+use borrow.Author.Needs.{needs}
 use denote.Ref.{now}
-use lib.ListN.{length}
-use Rattle.nearest.proofs.Leasts.{span-swap, Nearing, nearing-begin, nearing-take, nearing-keep, nearing-end}
+use Rattle.nearest.proofs.Leasts.{nearest-first}
 use Rattle.nearest.proofs.lowest.partner.Statement.{statement}
 use Rattle.nearest.proofs.lowest.partner.Tie as tie
 
-abbrev Inv-loop : tie.InvT-loop
-Inv-loop rows live a b q₀ t₀ q t = (t ≤ length live) × Nearing rows live a t q
+box-in-requires : tie.Need-box-in-requires
+box-in-requires c κs = search needs
 
-abbrev μ-loop : tie.MeasureT-loop
-μ-loop rows live a b q₀ t₀ q t = length live - t
+add-from : tie.Need-add-from
+add-from c = search needs
 
-box-in-requires : tie.Need-box-in-requires Inv-loop μ-loop
-box-in-requires c κs = (c .before .before .pre .0, omega arith)
+spans-requires : tie.Need-spans-requires
+spans-requires c κs = search needs
 
-add-t8 : tie.Need-add-t8 Inv-loop μ-loop
-add-t8 c = omega arith
+add-first-least : tie.Need-add-first-least
+add-first-least c = search needs
 
-mul-t9 : tie.Need-mul-t9 Inv-loop μ-loop
-mul-t9 c = omega arith
+sub-first-least : tie.Need-sub-first-least
+sub-first-least c = search needs
 
-shared-slice-read-t11 : tie.Need-shared-slice-read-t11 Inv-loop μ-loop
-shared-slice-read-t11 c = omega arith
+first-least-requires : tie.Need-first-least-requires
+first-least-requires c κs = search needs
 
-add-span : tie.Need-add-span Inv-loop μ-loop
-add-span c = omega arith
+add-t : tie.Need-add-t
+add-t c = search needs
 
-span-requires : tie.Need-span-requires Inv-loop μ-loop
-span-requires c κs = (c .before .before .before .before .pre .0, omega arith)
+mul-t13 : tie.Need-mul-t13
+mul-t13 c = search needs
 
-add-t : tie.Need-add-t Inv-loop μ-loop
-add-t c = omega arith
+shared-slice-read-t17 : tie.Need-shared-slice-read-t17
+shared-slice-read-t17 c = search needs
 
-loop-holds : tie.Need-loop-holds Inv-loop μ-loop
-loop-holds c =
-    let s = c .before .before .before .before .before .args in
-    (omega arith, nearing-begin (span-swap (now (s .rows)) (s .a) (s .a + 1) (c .before .before .box-in .ensures) (c .span .ensures)))
+add-t16 : tie.Need-add-t16
+add-t16 c = search needs
 
-span-requires-2 : tie.Need-span-requires-2 Inv-loop μ-loop
-span-requires-2 c κs = (c .before .before .before .before .before .before .before .pre .0, omega arith)
+mul-t19 : tie.Need-mul-t19
+mul-t19 c = search needs
 
-mul-t16 : tie.Need-mul-t16 Inv-loop μ-loop
-mul-t16 c = omega arith
+slice-read-t21 : tie.Need-slice-read-t21
+slice-read-t21 c = search needs
 
-shared-slice-read-t18 : tie.Need-shared-slice-read-t18 Inv-loop μ-loop
-shared-slice-read-t18 c = omega arith
+same-length : tie.Need-same-length
+same-length c = search needs
 
-add-t-2 : tie.Need-add-t-2 Inv-loop μ-loop
-add-t-2 c = omega arith
-
-loop-less : tie.Need-loop-less Inv-loop μ-loop
-loop-less c = omega arith
-
-loop-again : tie.Need-loop-again Inv-loop μ-loop
-loop-again c =
-    let s = c .before .before .before .before .before .before .before .before .before .before .args in
-    let l = c .before .before .before .before .loop in
-    let v = l .inv .1 in
-    let e = span-swap (now (s .rows)) (s .a) (l .t) (c .before .before .before .before .before .before .before .box-in .ensures) (c .before .before .span2 .ensures) in (
-      omega arith,
-      ⊎-elim
-          (λ w. rw (w .2) (nearing-take v e (w .0 .taken)))
-          (λ w. rw (w .1) (nearing-keep v e (omega (arith, w .0 .left))))
-          (c .if1 .came),
-    )
-
-returns : tie.Need-returns Inv-loop μ-loop
-returns c = let l = c .before .loop in nearing-end (l .inv .1) (omega (arith, l .inv .0))
+returns : tie.Need-returns
+returns c = (nearest-first (now (c .before .before .before .before .before .before .before .before .before .before .before .before .args .live)) (c .before .before .before .before .before .before .before .before .box-in .ensures) (c .before .before .before .before .before .before .spans .ensures) (c .before .before .first-least .result) (c .before .before .first-least .ensures), c .before .before .before .before .before .before .spans .ensures .same)
 
 pub partner-spec : {M : Type 1} → statement M
 partner-spec =
     tie.close
     (tie.spec
-    Inv-loop
-    μ-loop
     box-in-requires
-    add-t8
-    mul-t9
-    shared-slice-read-t11
-    add-span
-    span-requires
+    add-from
+    spans-requires
+    add-first-least
+    sub-first-least
+    first-least-requires
     add-t
-    loop-holds
-    span-requires-2
-    mul-t16
-    shared-slice-read-t18
-    add-t-2
-    loop-less
-    loop-again
+    mul-t13
+    shared-slice-read-t17
+    add-t16
+    mul-t19
+    slice-read-t21
+    same-length
     returns)

@@ -15,7 +15,7 @@ abbrev zeros-512 : List ℕ
 zeros-512 = replicate 512 0
 
 abbrev Inv-loop : tie.InvT-loop
-Inv-loop xs ys js₀ n bs₀ live₀ rows₀ i₀ js bs live rows i = (i + 1 ≤ n) × (length bs ≡ 4092) × (length live ≡ 512) × (length rows ≡ 3072) × Going (sinksAt xs ys) n i bs (take (n - i) live) rows js₀ js
+Inv-loop xs ys js₀ n bs₀ live₀ rows₀ i₀ js bs live rows i = (i + 1 ≤ n) × (length bs ≡ 4092) × (length live ≡ 512) × (length rows ≡ 3584) × Going (sinksAt xs ys) n i bs (take (n - i) live) rows js₀ js
 
 abbrev μ-loop : tie.MeasureT-loop
 μ-loop xs ys js₀ n bs₀ live₀ rows₀ i₀ js bs live rows i = n - i

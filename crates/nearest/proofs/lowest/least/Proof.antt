@@ -4,14 +4,17 @@ use mathlib.Core.Logic.{⊎-elim}
 use native.Mathlib.Omega.{arith}
 use Rattle.nearest.specs.Rows.{Least}
 use Rattle.nearest.proofs.Leasts.{least-begin, least-take, least-keep}
-use Rattle.nearest.proofs.lowest.least_far.Statement.{statement}
-use Rattle.nearest.proofs.lowest.least_far.Tie as tie
+use Rattle.nearest.proofs.lowest.least.Statement.{statement}
+use Rattle.nearest.proofs.lowest.least.Tie as tie
 
 abbrev Inv-loop : tie.InvT-loop
-Inv-loop rows k d₀ t₀ d t = (t ≤ k) × Least rows t d
+Inv-loop rows from k d₀ t₀ d t = (t ≤ k) × Least rows from t d
 
 abbrev μ-loop : tie.MeasureT-loop
-μ-loop rows k d₀ t₀ d t = k - t
+μ-loop rows from k d₀ t₀ d t = k - t
+
+mul-d : tie.Need-mul-d Inv-loop μ-loop
+mul-d c = omega arith
 
 shared-slice-read-d : tie.Need-shared-slice-read-d Inv-loop μ-loop
 shared-slice-read-d c = omega arith
@@ -50,12 +53,13 @@ returns c =
     let e : l .t ≡ c .before .before .before .args .k = omega (arith, l .inv .0) in
     rw e at (l .inv .1)
 
-pub least-far-spec : {M : Type 1} → statement M
-least-far-spec =
+pub least-spec : {M : Type 1} → statement M
+least-spec =
     tie.close
     (tie.spec
     Inv-loop
     μ-loop
+    mul-d
     shared-slice-read-d
     loop-holds
     add-e
