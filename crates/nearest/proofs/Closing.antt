@@ -2,39 +2,25 @@
 use mathlib.Core.Path.{_≡_, refl, sym, ap, _∙_}
 use mathlib.Core.Logic.{⊎-elim}
 use mathlib.Core.Bool.{true}
-use mathlib.Core.List.{List, _∷_}
+use mathlib.Core.List.{List, [], _∷_}
 use Prim.Native.Nat.{ℕ, zero, suc, _+_, _-_, _≤_, _<_}
 use native.Mathlib.Omega.{arith}
 use borrow.Author.Tests.{eq-eqb, ne-eqb}
-use lib.ListN.{length, getD}
+use lib.ListN.{length, getD, take, length-append, List·getD-append}
+use lib.Seq.{getD-take, getD-at, length-take-le, ext-getD}
 use Rattle.lists.proofs.Tests.{or-lt}
 use Rattle.nearest.specs.declared.pair.Pair.{Pair}
-use Rattle.nearest.specs.Nearest.{isOf, without}
+use Rattle.nearest.specs.Nearest.{isOf, without, after}
 use Rattle.nearest.specs.Rule.{In}
 use Rattle.nearest.specs.Boxes.{boxAt}
 use Rattle.nearest.specs.Live.{All, Rising}
 use Rattle.nearest.specs.Live.All.{none, also}
 use Rattle.nearest.specs.Live.Each.{nil, cons}
-use Rattle.nearest.specs.Rows.{Row, skip, Drops, Right, Closed}
+use Rattle.nearest.specs.Rows.{Row, rowAt, skip, Drops, Leaves, Right}
 use Rattle.nearest.proofs.Members.{all-at, all-in, not-of, rising-at}
 use Rattle.nearest.proofs.Packed.{two-left}
-use Rattle.nearest.proofs.Rowing.{skip-before, skip-after}
+use Rattle.nearest.proofs.Moving.{skip-before, skip-after, skip-under, skip-suc, skip-up}
 use Rattle.nearest.proofs.Entering.{Fits, fits-right, right-fits, fits-as}
-
--- ---- where the rows came from
-skip-under : (a t : ℕ) → skip a t ≤ suc t
-skip-under a t = ⊎-elim (λ p. omega (arith, skip-before a t p)) (λ p. omega (arith, skip-after a t p)) (or-lt t a)
-
-skip-suc : (a t : ℕ) → skip (suc a) (suc t) ≡ suc (skip a t)
-skip-suc a t =
-    ⊎-elim (λ p. omega (arith, skip-before a t p, skip-before (suc a) (suc t) (omega arith))) (λ p. omega (arith, skip-after a t p, skip-after (suc a) (suc t) (omega arith))) (or-lt t a)
-
-skip-up : (a s t : ℕ) → s < t → skip a s < skip a t
-skip-up a s t h =
-    ⊎-elim
-    (λ p. omega (arith, skip-before a t p, skip-before a s (omega arith)))
-    (λ p. omega (arith, skip-after a t p, skip-under a s))
-    (or-lt t a)
 
 -- ---- the rows that stay are right beside the nodes that stay
 pub right-close : {bs live live2 : List ℕ} {m : ℕ} {row row′ : ℕ → Row} (a b : ℕ) → Right bs live m row → length live2 + 2 ≡ length live → ((t : ℕ) → t < length live2 → getD live2 t 0 ≡ getD live (skip b (skip a t)) 0) → ((t : ℕ) → t < length live2 → row′ t ≡ row (skip b (skip a t))) → Right bs live2 m row′
@@ -58,18 +44,13 @@ right-close {bs} {live} {live2} {m} {row} {row′} a b v e f g = fits-right (λ 
           named = λ l. rw n (w .named (omega (arith, under s)));
         }
 
--- the later row leaves first, so that the place of the other is still its own
-pub closed-of : {live : List ℕ} {p : Pair} {rows rows1 rows2 : List ℕ} (a b : ℕ) → a < b → b < length live → getD live a 0 ≡ p .low → getD live b 0 ≡ p .high → Drops (length live) b rows rows1 → Drops (length live - 1) a rows1 rows2 → Closed live p rows rows2
-closed-of a b h l e f v w =
-    record {
-      low = a;
-      high = b;
-      up = h;
-      inside = l;
-      is-low = e;
-      is-high = f;
-      moved = λ t g. w .rest t (omega arith) ∙ v .rest (skip a t) (omega (arith, skip-under a t));
-    }
+-- the later leaves first, so that the place of the other is still its own
+module _ {a b : ℕ} where
+  pub rows-left : {k : ℕ} {rows rows1 rows2 : List ℕ} → Drops k b rows rows1 → Drops (k - 1) a rows1 rows2 → (t : ℕ) → t + 2 < k → rowAt rows2 t ≡ rowAt rows (skip b (skip a t))
+  rows-left v w t g = w .rest t (omega arith) ∙ v .rest (skip a t) (omega (arith, skip-under a t))
+
+  pub nodes-left : {k : ℕ} {live live1 live2 : List ℕ} → k ≡ length live → k ≡ length live1 → Leaves b live live1 → Leaves a live1 live2 → (t : ℕ) → t + 2 < k → getD live2 t 0 ≡ getD live (skip b (skip a t)) 0
+  nodes-left e f v w t g = w .rest t (omega arith) ∙ v .rest (skip a t) (omega (arith, skip-under a t))
 
 -- ---- and those are the nodes without the pair
 none-out : (p : Pair) {ls : List ℕ} → p .low < p .high → All (λ y. p .high < y) ls → without p ls ≡ ls
@@ -107,3 +88,17 @@ without-at p {live} a b r h l e f =
     let i : In (p .low) live = rw e at (all-at a (all-in live) (omega arith)) in
     let j : In (p .high) live = rw f at (all-at b (all-in live) l) in
     (λ t g. two-out p a b t r h l e f u, two-left p r (record { low-in = i; high-in = j; up = u }))
+
+-- ---- and with the new one they are those after the join
+pub left-after : (p : Pair) (m : ℕ) (live live′ : List ℕ) (a b : ℕ) → length live′ ≡ length live → length (without p live) + 2 ≡ length live → ((t : ℕ) → t < length (without p live) → getD (without p live) t 0 ≡ getD live (skip b (skip a t)) 0) → ((t : ℕ) → t + 2 < length live → getD live′ t 0 ≡ getD live (skip b (skip a t)) 0) → getD live′ (length live - 2) 0 ≡ m → take (length live - 1) live′ ≡ after p m live
+left-after p m live live′ a b s l f g h =
+    let k = length live - 1 in
+    let c : length (take k live′) ≡ k = length-take-le k live′ (omega arith) in
+    ext-getD 0 (take k live′) (after p m live) (rw (c, length-append) (omega arith)) (λ t i. getD-take k live′ t 0 (omega arith) ∙ go t (omega arith))
+  where
+    go : (t : ℕ) → t + 1 < length live → getD live′ t 0 ≡ getD (after p m live) t 0
+    go t i =
+        ⊎-elim
+        (λ q. g t (omega arith) ∙ sym (f t q) ∙ sym (List·getD-append (without p live) (m ∷ []) 0 t q))
+        (λ q. (let e : t ≡ length live - 2 = omega arith in ap (λ (o : ℕ). getD live′ o 0) e ∙ h ∙ sym (getD-at (without p live) m [] 0 t (omega arith))))
+        (or-lt t (length (without p live)))

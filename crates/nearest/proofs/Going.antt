@@ -19,17 +19,18 @@ use Rattle.plane.specs.Covers.{Covers}
 use Rattle.plane.specs.Sinks.{sinksAt}
 use Rattle.plane.proofs.Covering.{covers-hull, covers-diam}
 use Rattle.nearest.specs.declared.pair.Pair.{Pair}
+use Rattle.nearest.specs.declared.best.Choice.{Choice}
 use Rattle.nearest.specs.Nearest.{pair, below, union, best, without, after, chosen, joins, alone, order}
 use Rattle.nearest.specs.Boxes.{boxAt, reach, Puts, Sinked}
 use Rattle.nearest.specs.Live.{Packed}
-use Rattle.nearest.specs.Rows.{rowAt, Roomy, Right, Caching, Picks, Closed, Entered}
+use Rattle.nearest.specs.Rows.{rowAt, Roomy, skip, Right, Caching, pairAt, Picks, Closed, Entered}
 use Rattle.nearest.specs.Rounds.{Open, Made, Round}
 use Rattle.nearest.proofs.Members.{all-without, in-all}
 use Rattle.nearest.proofs.Pairs.{Within, best-same}
-use Rattle.nearest.proofs.Packed.{two-left, packed-begin, packed-within}
+use Rattle.nearest.proofs.Packed.{packed-begin, packed-within}
 use Rattle.nearest.proofs.Running.{Running, more, running-begin, running-turn}
 use Rattle.nearest.proofs.Entering.{right-same, right-enter}
-use Rattle.nearest.proofs.Closing.{right-close, without-at}
+use Rattle.nearest.proofs.Closing.{right-close, without-at, left-after}
 
 -- ---- the boxes are those of the sinks below each node
 pub record Held (s : Sinks) (m : ℕ) (sets : List (List ℕ)) (bs : List ℕ) : Type 0 where
@@ -112,28 +113,28 @@ open-caching {n} {i} o =
 within-low : {n i : ℕ} {live : List ℕ} {p : Pair} → Packed n i live → Within live p → (p .low < n + i) × (p .high < n + i)
 within-low v w = (in-all (w .low-in) (v .low), in-all (w .high-in) (v .low))
 
--- they are live
-pub open-close : {n i : ℕ} {bs live rows js : List ℕ} (p : Pair) → Open n i bs live rows js → p ≡ best (reach bs) live → Within live p
-open-close {bs = bs} p o e = rw e (packed-within (reach bs) (o .packed) (o .turn))
+pub open-low : {n i : ℕ} {bs live rows js : List ℕ} (p : Pair) → Open n i bs live rows js → p ≡ best (reach bs) live → (p .low < n + i) × (p .high < n + i)
+open-low {bs = bs} p o e = rw e (within-low (o .packed) (packed-within (reach bs) (o .packed) (o .turn)))
 
--- and in the list there is room for the new one in their place
-pub open-join : {n i : ℕ} {bs live rows js : List ℕ} (p : Pair) → Open n i bs live rows js → p ≡ best (reach bs) live → (p .low < n + i) × (p .high < n + i) × (length (without p live) < length live)
-open-join {bs = bs} p o e =
-    let w = packed-within (reach bs) (o .packed) (o .turn) in
-    let (low, high) = within-low (o .packed) w in
-    rw e (low, high, omega (arith, two-left (best (reach bs) _) (o .packed .rising) w))
+-- ---- after a join: the two left, and the new node entered after the others
+module _ {n i : ℕ} {bs live rows rows1 js : List ℕ} (c : Choice) (o : Open n i bs live rows js) (k : Picks bs live rows c rows1) where
+  -- which nodes stay
+  stay : ((t : ℕ) → t < length (without (pairAt live c) live) → getD (without (pairAt live c) live) t 0 ≡ getD live (skip (c .with) (skip (c .row) t)) 0) × (length (without (pairAt live c) live) + 2 ≡ length live)
+  stay = without-at (pairAt live c) (c .row) (c .with) (o .packed .rising) (k .up) (k .inside) refl refl
 
--- ---- what is kept is right again after a join: the two rows left, and the new node entered after the others
-module _ {n i : ℕ} {bs bs′ live live′ rows js : List ℕ} (p : Pair) (o : Open n i bs live rows js) (e : p ≡ best (reach bs) live) (d : Made (n + i) p bs bs′ live live′) where
-  pub right-round : (b : Box) (rows1 rows2 rows3 : List ℕ) → Picks bs live rows p rows1 → Closed live p rows1 rows2 → b ≡ boxAt bs′ (n + i) → Entered (length live - 2) b (n + i) rows2 rows3 → Right bs′ (after p (n + i) live) (n + i + 1) (rowAt rows3)
-  right-round b rows1 rows2 rows3 k c is w =
-      let low = o .packed .low in
-      let a = without-at p (c .low) (c .high) (o .packed .rising) (c .up) (c .inside) (c .is-low) (c .is-high) in
-      let v : Right bs (without p live) (n + i) (rowAt rows2) = right-close (c .low) (c .high) (k .right (n + i) low (o .right)) (a .1) (a .0) (λ t h. c .moved t (omega (arith, a .1))) in
-      right-enter b (length live - 2) is (omega (arith, a .1)) (right-same v (all-without p low) (d .puts .before)) (all-without p low) (w .holds) (w .gives) (w .puts)
+  module _ {bs′ live′ rows2 : List ℕ} (d : Closed c (n + i) live live′ rows1 rows2) where
+    -- what is kept is right again
+    right-round : (b : Box) (rows3 : List ℕ) → Puts (n + i) (hullOf (boxAt bs (pairAt live c .low)) (boxAt bs (pairAt live c .high))) bs bs′ → b ≡ boxAt bs′ (n + i) → Entered (length live - 2) b (n + i) rows2 rows3 → Right bs′ (after (pairAt live c) (n + i) live) (n + i + 1) (rowAt rows3)
+    right-round b rows3 u is w =
+        let p = pairAt live c in
+        let low = o .packed .low in
+        let v : Right bs (without p live) (n + i) (rowAt rows2) = right-close (c .row) (c .with) (k .right (n + i) low (o .right)) (stay .1) (stay .0) (λ t h. d .moved t (omega (arith, stay .1))) in
+        right-enter b (length live - 2) is (omega (arith, stay .1)) (right-same v (all-without p low) (u .before)) (all-without p low) (w .holds) (w .gives) (w .puts)
 
-  pub round-of : {rows′ js′ : List ℕ} → Right bs′ (after p (n + i) live) (n + i + 1) (rowAt rows′) → js′ ≡ set (set js (2 * i) (p .low)) (2 * i + 1) (p .high) → Round n i bs bs′ live live′ rows′ js js′
-  round-of r w = record { made = rw e at d; right = rw e at r; writes = rw e at w }
+    pub round-of : (p : Pair) (b : Box) (rows3 : List ℕ) {js′ : List ℕ} → p ≡ pairAt live c → length live′ ≡ length live → Puts (n + i) (hullOf (boxAt bs (p .low)) (boxAt bs (p .high))) bs bs′ → b ≡ boxAt bs′ (n + i) → Entered (length live - 2) b (n + i) rows2 rows3 → js′ ≡ set (set js (2 * i) (p .low)) (2 * i + 1) (p .high) → Round n i bs bs′ live live′ rows3 js js′
+    round-of p b rows3 e s u is w x =
+        let a : Made (n + i) (pairAt live c) bs bs′ live live′ = record { puts = rw e at u; packs = left-after (pairAt live c) (n + i) live live′ (c .row) (c .with) s (stay .1) (stay .0) (d .nodes) (d .last) } in
+        record { made = rw (k .is) at a; right = rw (k .is) at (right-round b rows3 (rw e at u) is w); writes = rw (e ∙ k .is) at x }
 
 -- ---- the rows of the sinks, one at a time
 pub right-sink : {bs : List ℕ} (i : ℕ) (b : Box) (rows rows′ : List ℕ) → Right bs (upTo i) i (rowAt rows) → b ≡ boxAt bs i → Entered i b i rows rows′ → Right bs (upTo (i + 1)) (i + 1) (rowAt rows′)
@@ -147,8 +148,8 @@ two-more l k a b h =
     rw (e, take-suc-set (set l k a) (k + 1) b (rw length-set h), add-one, take-suc-set l k a (omega arith), append-assoc)
 
 -- the live nodes after a join stand where those before it stood, at the front of a list
-next-live : (p : Pair) (m k : ℕ) (live : List ℕ) {live′ : List ℕ} (rest : List ℕ) → live′ ≡ front (after p m live) live → length (after p m live) ≡ k → take k (live′ ++ rest) ≡ after p m live
-next-live p m k live rest e h = rw (e, append-assoc) (take-at (after p m live) (drop (length (after p m live)) live ++ rest) k h)
+next-live : (k : ℕ) (new live rest : List ℕ) → take k live ≡ new → length new ≡ k → take k (live ++ rest) ≡ new
+next-live k new live rest e h = ap (λ (l : List ℕ). take k (l ++ rest)) (sym (take-append-drop k live)) ∙ rw (e, append-assoc) (take-at new (drop k live ++ rest) k h)
 
 module _ {s : Sinks} {n i : ℕ} {bs bs′ live live′ rows rows′ js₀ js js′ : List ℕ} where
   pub going-turn : (rest : List ℕ) → Going s n i bs live rows js₀ js → i + 1 < n → 2 * i + 1 < length js → Round n i bs bs′ live live′ rows′ js js′ → Going s n (i + 1) bs′ (take (n - (i + 1)) (live′ ++ rest)) rows′ js₀ js′
@@ -162,7 +163,8 @@ module _ {s : Sinks} {n i : ℕ} {bs bs′ live live′ rows rows′ js₀ js js
       let two : 2 * (i + 1) ≡ 2 * i + 2 = omega arith in
       let less : n - 1 - i ≡ suc (n - 1 - (i + 1)) = omega arith in
       let run = running-turn p (v .running) w in
-      let next = next-live p (n + i) (n - (i + 1)) live rest (d .made .packs) (run .packed .count) in
+      let one : length live - 1 ≡ n - (i + 1) = omega (arith, v .running .packed .count) in
+      let next = next-live (n - (i + 1)) (after p (n + i) live) live′ rest (rw one at (d .made .packs)) (run .packed .count) in
       record {
         sets = more (v .sets) p;
         running = rw next run;

@@ -3,11 +3,11 @@ pub mod Members
 pub mod Pairs
 pub mod Boxing
 pub mod Packed
-pub mod Leaving
 pub mod Running
 pub mod Validity
 pub mod Ruled
 -- what is kept beside each live node
+pub mod Moving
 pub mod Rowing
 pub mod Leasts
 pub mod Entering

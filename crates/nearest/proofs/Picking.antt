@@ -5,10 +5,9 @@ use mathlib.Core.Bool.{Bool, true, false}
 use mathlib.Core.List.{List}
 use Prim.Native.Nat.{ℕ, zero, suc, _-_, _≤_, _<_}
 use native.Mathlib.Omega.{arith}
-use borrow.Author.Tests.{ltb-true, eq-eqb, eqb-true, eqb-false}
+use borrow.Author.Tests.{eqb-true, eqb-false}
 use lib.Dec.{eqb}
 use lib.ListN.{length, getD}
-use Rattle.lists.proofs.Any.{any-yes}
 use Rattle.lists.proofs.First.{first-end, first-hit, first-none}
 use Rattle.lists.proofs.Tests.{or-lt}
 use Rattle.nearest.specs.declared.pair.Near.{Near}
@@ -32,14 +31,6 @@ place : {x : ℕ} {ls : List ℕ} → In x ls → Place ls x
 place hit = record { at = zero; inside = omega arith; is = refl }
 place (next i) = let p = place i in record { at = suc (p .at); inside = omega (arith, p .inside); is = p .is }
 
--- the search for it finds it
-stands : {x : ℕ} {ls : List ℕ} → In x ls → (placeOf ls x < length ls) × (getD ls (placeOf ls x) 0 ≡ x)
-stands {x} {ls} i =
-    let p = place i in
-    let is : ℕ → Bool = λ j. eqb (getD ls j 0) x in
-    let h = ltb-true (placeOf ls x) (length ls) (any-yes is (length ls) (p .at) (p .inside) (eq-eqb (getD ls (p .at) 0) x (p .is))) in
-    (h, eqb-true (getD ls (placeOf ls x) 0) x (first-hit is 0 (length ls) (omega (arith, h))))
-
 -- in a rising list the lower entry stands first
 rising-from : {ls : List ℕ} (s t : ℕ) → Rising ls → s < length ls → getD ls s 0 < getD ls t 0 → s < t
 rising-from {ls} s t r h l =
@@ -47,16 +38,6 @@ rising-from {ls} s t r h l =
     (λ p. p)
     (λ p. ⊎-elim (λ q. (let g = rising-at t s r q h in let z : ⊥ = omega arith in absurd z)) (λ q. (let e : s ≡ t = omega arith in let f = ap (λ (o : ℕ). getD ls o 0) e in let z : ⊥ = omega arith in absurd z)) (or-lt t s))
     (or-lt s t)
-
--- so the search finds the two of a pair in turn
-pub found : {x t : ℕ} {ls : List ℕ} → In x ls → t ≡ placeOf ls x → (t < length ls) × (getD ls t 0 ≡ x)
-found i e = rw e (stands i)
-
-pub in-turn : {x y s t : ℕ} {ls : List ℕ} → Rising ls → In x ls → In y ls → x < y → s ≡ placeOf ls x → t ≡ placeOf ls y → s < t
-in-turn {s = s} {t} r i j h e f =
-    let a = found i e in
-    let b = found j f in
-    rising-from s t r (a .0) (omega (arith, a .1, b .1))
 
 -- where the search comes to the end, the node is not live; where it does not, it is
 pub missing : (ls : List ℕ) (x : ℕ) {t : ℕ} → t ≡ placeOf ls x → t ≡ length ls → (i : ℕ) → i < length ls → getD ls i 0 ≡ x → ⊥
@@ -90,6 +71,9 @@ module _ {bs live rows : List ℕ} {m a : ℕ} (r : Rising live) (v : Right bs l
             let i = rising-from a t r (omega (arith, w .one)) (omega arith) in
             omega (arith, n, v .first a t i g (far-is ∙ q ∙ ap (λ (x : ℕ). reach bs x (getD live t 0)) (sym o))));
       }
+
+  pub chosen-up : a < b
+  chosen-up = rising-from a b r (omega (arith, w .one)) (omega (arith, n, v .named a (omega (arith, w .one)) .1))
 
   pub right-chosen : pair (getD live a 0) (getD live b 0) ≡ best (reach bs) live
   right-chosen = only-chosen (reach bs) picked (best-chosen (reach bs) r (omega (arith, w .one)))

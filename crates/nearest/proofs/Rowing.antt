@@ -4,13 +4,13 @@ use mathlib.Core.Bool.{Bool, true, false, cond}
 use mathlib.Core.List.{List}
 use Prim.Native.Nat.{ℕ, zero, suc, _+_, _*_, _≤_, _<_}
 use native.Mathlib.Omega.{arith}
-use borrow.Author.Tests.{eqb-true, eqb-false, lt-ltb, le-ltb}
+use borrow.Author.Tests.{eqb-true, eqb-false}
 use lib.Dec.{eqb, ltb}
 use lib.ListN.{length, getD, set, length-set}
 use lib.Seq.{getD-set-same, getD-set-other}
 use Rattle.plane.specs.Measures.{keptAs}
 use Rattle.plane.specs.declared.boxes.Box.{Box}
-use Rattle.nearest.specs.Rows.{Row, rowAt, Roomy, span, given, held, Sets, Holds, SameRows, Spans, Boxes, Drops, skip}
+use Rattle.nearest.specs.Rows.{Row, rowAt, Roomy, span, given, held, Sets, Holds, SameRows, Spans, Boxes}
 
 -- ---- the six numbers of a row, counted
 abbrev pub place : ℕ → ℕ → ℕ
@@ -147,41 +147,3 @@ spans-turn {from} {b} {old} {mid} {new} {t} v h r e =
     go s l g false q =
         let p = eqb-false s t q in
         getD-set-other mid (3072 + t) (3072 + s) (span (rowAt mid t) b) 0 (λ z. p (omega (arith, z))) ∙ v .here s l (omega (arith, p))
-
--- ---- rows that move up, from a on, as far as t
-pub record Moving (a : ℕ) (old new : List ℕ) (t : ℕ) : Type 0 where
-  pub size : length new ≡ length old
-  pub from : a ≤ t
-  pub moved : (s : ℕ) → s < t → rowAt new s ≡ rowAt old (skip a s)
-  pub others : (s : ℕ) → t ≤ s → s < 512 → rowAt new s ≡ rowAt old s
-
-pub skip-before : (a s : ℕ) → s < a → skip a s ≡ s
-unfolding skip
-skip-before a s h = rw (lt-ltb s a h)
-
-pub skip-after : (a s : ℕ) → a ≤ s → skip a s ≡ suc s
-unfolding skip
-skip-after a s h = rw (le-ltb s a h)
-
-pub moving-begin : (rows : List ℕ) (a : ℕ) → Moving a rows rows a
-moving-begin rows a = record { size = refl; from = omega arith; moved = λ s h. ap (rowAt rows) (sym (skip-before a s h)); others = λ s h l. refl }
-
-pub moving-turn : {a : ℕ} {old mid new : List ℕ} {t : ℕ} → Moving a old mid t → t + 1 < 512 → length new ≡ length mid → Sets t (rowAt mid (t + 1)) mid new → Moving a old new (t + 1)
-moving-turn {a} {old} {mid} {new} {t} v h e w =
-    record {
-      size = e ∙ v .size;
-      from = omega (arith, v .from);
-      moved = λ s l. go s l (eqb s t) refl;
-      others = λ s l g. w .others s g (λ q. omega (arith, q)) ∙ v .others s (omega arith) g;
-    }
-  where
-    go : (s : ℕ) → s < t + 1 → (q : Bool) → eqb s t ≡ q → rowAt new s ≡ rowAt old (skip a s)
-    go s l true q =
-        let p = eqb-true s t q in
-        ap (rowAt new) p ∙ w .here ∙ v .others (t + 1) (omega arith) h ∙ ap (rowAt old) (let e : t + 1 ≡ skip a t = omega (arith, skip-after a t (v .from)) in e) ∙ ap (λ (x : ℕ). rowAt old (skip a x)) (sym p)
-    go s l false q =
-        let p = eqb-false s t q in
-        w .others s (omega arith) p ∙ v .moved s (omega (arith, p))
-
-pub moving-end : {k a : ℕ} {old new : List ℕ} {t : ℕ} → Moving a old new t → k ≤ t + 1 → Drops k a old new
-moving-end v h = record { rest = λ s l. v .moved s (omega (arith, h)) }

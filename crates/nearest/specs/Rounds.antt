@@ -1,9 +1,8 @@
 -- For the code alone: one join after i of them, of n sinks.
 use mathlib.Core.Path.{_≡_}
 use mathlib.Core.List.{List}
-use Prim.Native.Nat.{ℕ, _+_, _*_, _≤_, _<_}
-use lib.ListN.{length, set}
-use Rattle.lists.specs.Grow.{front}
+use Prim.Native.Nat.{ℕ, _+_, _-_, _*_, _≤_, _<_}
+use lib.ListN.{length, take, set}
 use Rattle.plane.specs.Boxes.{hullOf}
 use Rattle.nearest.specs.declared.pair.Pair.{Pair}
 use Rattle.nearest.specs.Nearest.{best, after}
@@ -24,7 +23,7 @@ pub record Open (n i : ℕ) (bs live rows js : List ℕ) : Type 0 where
 -- the pair p is joined to node m: its hull is the next box, and the live nodes are those after the join
 pub record Made (m : ℕ) (p : Pair) (bs bs′ live live′ : List ℕ) : Type 0 where
   pub puts : Puts m (hullOf (boxAt bs (p .low)) (boxAt bs (p .high))) bs bs′
-  pub packs : live′ ≡ front (after p m live) live
+  pub packs : take (length live - 1) live′ ≡ after p m live
 
 -- the best pair is joined and written, and what is kept beside the live nodes after the join is right
 pub record Round (n i : ℕ) (bs bs′ live live′ rows′ js js′ : List ℕ) : Type 0 where

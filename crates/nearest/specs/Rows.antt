@@ -12,7 +12,7 @@ use Rattle.lists.specs.First.{first}
 use Rattle.nearest.specs.declared.pair.Near.{Near}
 use Rattle.nearest.specs.declared.pair.Pair.{Pair}
 use Rattle.nearest.specs.declared.best.Choice.{Choice}
-use Rattle.nearest.specs.Nearest.{best}
+use Rattle.nearest.specs.Nearest.{pair, best}
 use Rattle.nearest.specs.Boxes.{boxAt, reach}
 use Rattle.nearest.specs.Live.{Rising, Below}
 
@@ -52,7 +52,7 @@ pub record Sets (t : ℕ) (r : Row) (old new : List ℕ) : Type 0 where
   pub here : rowAt new t ≡ r
   pub others : (s : ℕ) → s < 512 → (s ≡ t → ⊥) → rowAt new s ≡ rowAt old s
 
--- where row t came from, once row a has left and those after it moved up
+-- where row or node t came from, once that at a has left and those after it moved up
 unfoldable pub skip : ℕ → ℕ → ℕ
 skip a t = cond (ltb t a) t (suc t)
 
@@ -91,6 +91,10 @@ SameRows old new = (s : ℕ) → s < 512 → rowAt new s ≡ rowAt old s
 pub record Spans (from to : ℕ) (b : Box) (old new : List ℕ) : Type 0 where
   pub here : (t : ℕ) → from ≤ t → t < to → getD new (3072 + t) 0 ≡ span (rowAt old t) b
   pub same : SameRows old new
+
+-- the live node at place a has left, and those after it moved up
+pub record Leaves (a : ℕ) (old new : List ℕ) : Type 0 where
+  pub rest : (t : ℕ) → t + 1 < length old → getD new t 0 ≡ getD old (skip a t) 0
 
 -- of k rows, a is the first of those whose partner is nearest
 abbrev pub Lowest : List ℕ → ℕ → ℕ → Type 0
@@ -134,20 +138,22 @@ pub record Chooses (live rows : List ℕ) (c : Choice) : Type 0 where
   pub lowest : Lowest rows (length live - 1) (c .row)
   pub place : c .with ≡ placeOf live (rowAt rows (c .row) .at)
 
--- the best pair, and what is kept is right as before
-pub record Picks (bs live rows : List ℕ) (r : Pair) (rows′ : List ℕ) : Type 0 where
-  pub is : r ≡ best (reach bs) live
+-- the two nodes at their places
+abbrev pub pairAt : List ℕ → Choice → Pair
+pairAt live c = pair (getD live (c .row) 0) (getD live (c .with) 0)
+
+-- the places of the best pair, and what is kept is right as before
+pub record Picks (bs live rows : List ℕ) (r : Choice) (rows′ : List ℕ) : Type 0 where
+  pub is : pairAt live r ≡ best (reach bs) live
+  pub up : r .row < r .with
+  pub inside : r .with < length live
   pub right : (m : ℕ) → Below m live → Right bs live m (rowAt rows) → Right bs live m (rowAt rows′)
 
--- the two rows of a pair have left, and those after them moved up
-pub record Closed (live : List ℕ) (p : Pair) (rows rows′ : List ℕ) : Type 0 where
-  pub low : ℕ
-  pub high : ℕ
-  pub up : low < high
-  pub inside : high < length live
-  pub is-low : getD live low 0 ≡ p .low
-  pub is-high : getD live high 0 ≡ p .high
-  pub moved : (t : ℕ) → t + 2 < length live → rowAt rows′ t ≡ rowAt rows (skip high (skip low t))
+-- the two nodes of a pair have left with their rows, those after them moved up, and node m comes last
+pub record Closed (c : Choice) (m : ℕ) (live live′ rows rows′ : List ℕ) : Type 0 where
+  pub nodes : (t : ℕ) → t + 2 < length live → getD live′ t 0 ≡ getD live (skip (c .with) (skip (c .row) t)) 0
+  pub moved : (t : ℕ) → t + 2 < length live → rowAt rows′ t ≡ rowAt rows (skip (c .with) (skip (c .row) t))
+  pub last : getD live′ (length live - 2) 0 ≡ m
 
 -- node m with box b has entered after k rows: each was held against it, and the last has no other partner
 pub record Entered (k : ℕ) (b : Box) (m : ℕ) (rows rows′ : List ℕ) : Type 0 where

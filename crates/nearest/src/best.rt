@@ -1,7 +1,8 @@
 // The pair to join: of the live nodes the first whose union has the least diameter, from what is kept beside each.
-ghost use Prim.Native.Nat.{_≤_};
+ghost use mathlib.Core.Path.{_≡_};
+ghost use Prim.Native.Nat.{_≤_, _<_};
 ghost use lib.ListN.{length};
-ghost use Rattle.nearest.specs.Rows.{Roomy, Caching, Chooses, Picks};
+ghost use Rattle.nearest.specs.Rows.{pairAt, Roomy, Caching, Chooses, Picks};
 use crate::live;
 use crate::lowest;
 use crate::pair::Pair;
@@ -26,9 +27,9 @@ fn choose(live: &[usize], rows: &[u32]) -> Choice
     }
 }
 
-// The leaf: the best pair of live nodes, which come in rising order. A row whose partner is gone is looked through again only where it comes first:
+// The leaf: the places of the best pair of live nodes, which come in rising order. A row whose partner is gone is looked through again only where it comes first:
 // what it keeps is nearer than what is left, so no other pair is passed over.
-pub fn nearest(live: &[usize], bs: &[u32], rows: &mut [u32]) -> Pair
+pub fn nearest(live: &[usize], bs: &[u32], rows: &mut [u32]) -> Choice
     requires { ⌜ Caching (now bs) (now live) (now rows) ⌝ }
     ensures { λ r. ⌜ Picks (now (bs .entry)) (now (live .entry)) (now (rows .entry)) r (now (rows .exit)) ⌝ }
 {
@@ -38,6 +39,14 @@ pub fn nearest(live: &[usize], bs: &[u32], rows: &mut [u32]) -> Pair
         rows::give(rows, c.row, q);
         c = choose(live, rows);
     }
+    c
+}
+
+// The two nodes at their places.
+pub fn pair_at(live: &[usize], c: Choice) -> Pair
+    requires { ⌜ (c .row < length (now live)) × (c .with < length (now live)) ⌝ }
+    ensures { λ r. ⌜ r ≡ pairAt (now (live .entry)) c ⌝ }
+{
     let s = c.row;
     let t = c.with;
     Pair {

@@ -1,26 +1,26 @@
-// The rows from join to join.
+// The live nodes and their rows, from join to join.
 ghost use Prim.Native.Nat.{_*_, _≤_, _<_};
 ghost use lib.ListN.{length};
 ghost use Rattle.lists.specs.Grow.{upTo};
-ghost use Rattle.nearest.specs.Live.{Rising};
-ghost use Rattle.nearest.specs.Rule.{In};
 ghost use Rattle.nearest.specs.Rows.{rowAt, Roomy, Right, Closed, Entered};
+use crate::best::Choice;
 use crate::live;
 use crate::pair::Near;
-use crate::pair::Pair;
 use crate::rows;
 use crate::table;
 use plane::boxes::Box;
 
-// The two rows of a pair leave.
-pub fn close(live: &[usize], rows: &mut [u32], p: Pair)
-    requires { ⌜ Roomy (now rows) × (length (now live) ≤ 512) × Rising (now live) × In (p .low) (now live) × In (p .high) (now live) × (p .low < p .high) ⌝ }
-    ensures { λ _. ⌜ Closed (now (live .entry)) p (now (rows .entry)) (now (rows .exit)) ⌝ }
+// The two nodes of a pair leave with their rows, and node m is live after all others. The later of the two leaves first, so that the place of the other is still its own.
+pub fn close(live: &mut [usize], rows: &mut [u32], c: Choice, m: usize)
+    requires { ⌜ Roomy (now rows) × (length (now live) ≤ 512) × (c .row < c .with) × (c .with < length (now live)) ⌝ }
+    ensures { λ _. ⌜ Closed c m (now (live .entry)) (now (live .exit)) (now (rows .entry)) (now (rows .exit)) ⌝ }
 {
-    let a = live::place(live, p.low);
-    let b = live::place(live, p.high);
-    rows::drop_row(rows, live.len(), b);
-    rows::drop_row(rows, live.len() - 1, a);
+    let k = live.len();
+    rows::drop_row(rows, k, c.with);
+    rows::drop_row(rows, k - 1, c.row);
+    live::drop_at(live, c.with);
+    live::drop_at(live, c.row);
+    live[k - 2] = m;
 }
 
 // Node m with box b enters after k rows. Each is held against it; the last had no later node, so this one is its partner.

@@ -1,16 +1,9 @@
 // The live nodes, packed: they stand at the front of one list, in rising order, with no joined node among them.
 ghost use mathlib.Core.Path.{_≡_};
+ghost use Prim.Native.Nat.{_<_};
 ghost use lib.ListN.{length};
-ghost use Rattle.lists.specs.Grow.{front, upTo};
-ghost use Rattle.nearest.specs.Nearest.{isOf, without};
-ghost use Rattle.nearest.specs.Rows.{placeOf};
-use crate::pair::Pair;
-
-fn is_of(p: Pair, a: usize) -> bool
-    ensures { λ r. ⌜ r ≡ isOf p a ⌝ }
-{
-    a == p.low || a == p.high
-}
+ghost use Rattle.lists.specs.Grow.{upTo};
+ghost use Rattle.nearest.specs.Rows.{placeOf, Leaves};
 
 // All sinks are live.
 pub fn begin(live: &mut [usize])
@@ -23,21 +16,16 @@ pub fn begin(live: &mut [usize])
     }
 }
 
-// The two of a pair leave: the others move up, in their order. How many they are.
-pub fn leave(live: &mut [usize], p: Pair) -> usize
-    ensures { λ r. ⌜ (r ≡ length (without p (now (live .entry)))) × (now (live .exit) ≡ front (without p (now (live .entry))) (now (live .entry))) ⌝ }
+// The node at place a leaves: those after it move up. Nothing is asked of them, so many move at a time.
+pub fn drop_at(live: &mut [usize], a: usize)
+    requires { ⌜ a < length (now live) ⌝ }
+    ensures { λ _. ⌜ Leaves a (now (live .entry)) (now (live .exit)) ⌝ }
 {
-    let mut w = 0;
-    let mut t = 0;
-    while t < live.len() {
-        let a = live[t];
-        if !is_of(p, a) {
-            live[w] = a;
-            w += 1;
-        }
+    let mut t = a;
+    while t + 1 < live.len() {
+        live[t] = live[t + 1];
         t += 1;
     }
-    w
 }
 
 // Where a node stands; how many there are, where it is not live.

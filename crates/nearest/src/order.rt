@@ -3,9 +3,7 @@ ghost use mathlib.Core.Path.{_≡_};
 ghost use Prim.Native.Nat.{_+_, _*_, _<_};
 ghost use lib.ListN.{length, set};
 ghost use Rattle.lists.specs.Grow.{front};
-ghost use Rattle.nearest.specs.Nearest.{without};
-ghost use Rattle.nearest.specs.Boxes.{Boxed};
-ghost use Rattle.nearest.specs.Rounds.{Open, Made, Round};
+ghost use Rattle.nearest.specs.Rounds.{Open, Round};
 ghost use Rattle.nearest.specs.Calls.{orderAt, checkNearest, Joining};
 ghost use Rattle.nearest.specs.Ready.{CanJoin};
 use crate::best;
@@ -40,25 +38,16 @@ fn write_pair(js: &mut [u16], i: usize, p: Pair)
     js[at + 1] = narrow(p.high);
 }
 
-// The two of a pair are joined to node m, which is live in their place, after all others.
-fn join(bs: &mut [u32], live: &mut [usize], m: usize, p: Pair)
-    requires { ⌜ Boxed (now bs) m × (p .low < m) × (p .high < m) × (length (without p (now live)) < length (now live)) ⌝ }
-    ensures { λ _. ⌜ Made m p (now (bs .entry)) (now (bs .exit)) (now (live .entry)) (now (live .exit)) ⌝ }
-{
-    table::put_hull(bs, m, p);
-    let w = live::leave(live, p);
-    live[w] = m;
-}
-
 // Join i of n sinks: the best pair is joined and written, and what is kept is right again for the live nodes, one fewer.
 fn round(bs: &mut [u32], live: &mut [usize], rows: &mut [u32], n: usize, i: usize, js: &mut [u16])
     requires { ⌜ Open n i (now bs) (now live) (now rows) (now js) ⌝ }
     ensures { λ _. ⌜ Round n i (now (bs .entry)) (now (bs .exit)) (now (live .entry)) (now (live .exit)) (now (rows .exit)) (now (js .entry)) (now (js .exit)) ⌝ }
 {
     let m = n + i;
-    let p = best::nearest(live, bs, rows);
-    keep::close(live, rows, p);
-    join(bs, live, m, p);
+    let c = best::nearest(live, bs, rows);
+    let p = best::pair_at(live, c);
+    table::put_hull(bs, m, p);
+    keep::close(live, rows, c, m);
     keep::enter(rows, live.len() - 2, table::box_at(bs, m), m);
     write_pair(js, i, p);
 }

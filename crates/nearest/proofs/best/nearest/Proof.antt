@@ -6,7 +6,7 @@ use lib.ListN.{length}
 use Rattle.nearest.specs.Live.{Below}
 use Rattle.nearest.specs.Rows.{Row, rowAt, given, Right, Chooses}
 use Rattle.nearest.proofs.Members.{all-at}
-use Rattle.nearest.proofs.Picking.{right-chosen, right-mend, missing, hit-at}
+use Rattle.nearest.proofs.Picking.{right-chosen, chosen-up, right-mend, missing, hit-at}
 use Rattle.nearest.proofs.Ending.{gone, gone-less}
 use Rattle.nearest.proofs.best.nearest.Statement.{statement}
 use Rattle.nearest.proofs.best.nearest.Tie as tie
@@ -62,27 +62,23 @@ loop-again c =
       c .choose2 .ensures,
     )
 
-mul-t19 : tie.Need-mul-t19 Inv-loop μ-loop
-mul-t19 c = omega (arith, c .before .before .loop .inv .2 .lowest .one, c .before .before .before .before .before .before .before .before .pre .few, hit-at (now (c .before .before .before .before .before .before .before .before .args .live)) (rowAt (c .before .before .loop .rows) (c .before .before .loop .c .row) .at) (c .before .before .loop .inv .2 .place) (c .if1 .left) .0)
-
-shared-slice-read-t21 : tie.Need-shared-slice-read-t21 Inv-loop μ-loop
-shared-slice-read-t21 c = omega (arith, c .before .before .before .loop .inv .2 .lowest .one)
-
-mul-t22 : tie.Need-mul-t22 Inv-loop μ-loop
-mul-t22 c = omega (arith, c .before .before .before .loop .inv .2 .lowest .one, c .before .before .before .before .before .before .before .before .before .pre .few, hit-at (now (c .before .before .before .before .before .before .before .before .before .args .live)) (rowAt (c .before .before .before .loop .rows) (c .before .before .before .loop .c .row) .at) (c .before .before .before .loop .inv .2 .place) (c .before .if1 .left) .0)
-
-shared-slice-read-t24 : tie.Need-shared-slice-read-t24 Inv-loop μ-loop
-shared-slice-read-t24 c = hit-at (now (c .before .before .before .before .before .before .before .before .before .before .args .live)) (rowAt (c .before .before .before .before .loop .rows) (c .before .before .before .before .loop .c .row) .at) (c .before .before .before .before .loop .inv .2 .place) (c .before .before .if1 .left) .0
-
 same-length : tie.Need-same-length Inv-loop μ-loop
-same-length c = c .before .before .before .before .loop .inv .0
+same-length c = c .before .before .loop .inv .0
 
 returns : tie.Need-returns Inv-loop μ-loop
 returns c =
-    let o = c .before .before .before .before .before .before .before .before .before .before .pre in
-    let v = c .before .before .before .before .loop .inv in
-    let h = hit-at (now (c .before .before .before .before .before .before .before .before .before .before .args .live)) (rowAt (c .before .before .before .before .loop .rows) (c .before .before .before .before .loop .c .row) .at) (v .2 .place) (c .before .before .if1 .left) in
-    record { is = right-chosen (o .rising) (v .1 (o .top) (o .low) (o .right)) (length (now (c .before .before .before .before .before .before .before .before .before .before .args .live))) refl (v .2 .lowest) (c .before .before .before .before .loop .c .with) (h .0) (h .1); right = v .1 }
+    let o = c .before .before .before .before .before .before .before .before .pre in
+    let live = now (c .before .before .before .before .before .before .before .before .args .live) in
+    let l = c .before .before .loop in
+    let v = l .inv in
+    let w = v .1 (o .top) (o .low) (o .right) in
+    let (h, n) = hit-at live (rowAt (l .rows) (l .c .row) .at) (v .2 .place) (c .if1 .left) in
+    record {
+      is = right-chosen (o .rising) w (length live) refl (v .2 .lowest) (l .c .with) h n;
+      up = chosen-up (o .rising) w (length live) refl (v .2 .lowest) (l .c .with) h n;
+      inside = h;
+      right = v .1;
+    }
 
 pub nearest-spec : {M : Type 1} → statement M
 nearest-spec =
@@ -97,9 +93,5 @@ nearest-spec =
     choose-requires-2
     loop-less
     loop-again
-    mul-t19
-    shared-slice-read-t21
-    mul-t22
-    shared-slice-read-t24
     same-length
     returns)
