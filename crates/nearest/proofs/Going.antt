@@ -131,10 +131,10 @@ module _ {n i : ℕ} {bs live rows rows1 js : List ℕ} (c : Choice) (o : Open n
         let v : Right bs (without p live) (n + i) (rowAt rows2) = right-close (c .row) (c .with) (k .right (n + i) low (o .right)) (stay .1) (stay .0) (λ t h. d .moved t (omega (arith, stay .1))) in
         right-enter b (length live - 2) is (omega (arith, stay .1)) (right-same v (all-without p low) (u .before)) (all-without p low) (w .holds) (w .gives) (w .puts)
 
-    pub round-of : (p : Pair) (b : Box) (rows3 : List ℕ) {js′ : List ℕ} → p ≡ pairAt live c → length live′ ≡ length live → Puts (n + i) (hullOf (boxAt bs (p .low)) (boxAt bs (p .high))) bs bs′ → b ≡ boxAt bs′ (n + i) → Entered (length live - 2) b (n + i) rows2 rows3 → js′ ≡ set (set js (2 * i) (p .low)) (2 * i + 1) (p .high) → Round n i bs bs′ live live′ rows3 js js′
-    round-of p b rows3 e s u is w x =
+    pub round-of : (p : Pair) (b : Box) (rows3 : List ℕ) {js′ : List ℕ} → pairAt live c ≡ best (reach bs) live → p ≡ pairAt live c → length live′ ≡ length live → Puts (n + i) (hullOf (boxAt bs (p .low)) (boxAt bs (p .high))) bs bs′ → b ≡ boxAt bs′ (n + i) → Entered (length live - 2) b (n + i) rows2 rows3 → js′ ≡ set (set js (2 * i) (p .low)) (2 * i + 1) (p .high) → Round n i bs bs′ live live′ rows3 js js′
+    round-of p b rows3 y e s u is w x =
         let a : Made (n + i) (pairAt live c) bs bs′ live live′ = record { puts = rw e at u; packs = left-after (pairAt live c) (n + i) live live′ (c .row) (c .with) s (stay .1) (stay .0) (d .nodes) (d .last) } in
-        record { made = rw (k .is) at a; right = rw (k .is) at (right-round b rows3 (rw e at u) is w); writes = rw (e ∙ k .is) at x }
+        record { made = rw y at a; right = rw y at (right-round b rows3 (rw e at u) is w); writes = rw (e ∙ y) at x }
 
 -- ---- the rows of the sinks, one at a time
 pub right-sink : {bs : List ℕ} (i : ℕ) (b : Box) (rows rows′ : List ℕ) → Right bs (upTo i) i (rowAt rows) → b ≡ boxAt bs i → Entered i b i rows rows′ → Right bs (upTo (i + 1)) (i + 1) (rowAt rows′)

@@ -1,4 +1,4 @@
--- Joining by least diameter. For a reader: Nearest, Rule, Calls. For the code alone: Boxes, Live, Kept, Rows, Rounds, Ready.
+-- Joining by least diameter. For a reader: Nearest, Rule, Calls. For the code alone: Boxes, Live, Rows, Rounds, Ready.
 pub mod Nearest
 pub mod Rule
 pub mod Calls

