@@ -12,7 +12,7 @@ use Rattle.lists.specs.First.{first}
 use Rattle.nearest.specs.declared.pair.Near.{Near}
 use Rattle.nearest.specs.declared.pair.Pair.{Pair}
 use Rattle.nearest.specs.declared.best.Choice.{Choice}
-use Rattle.nearest.specs.Nearest.{pair, best}
+use Rattle.nearest.specs.Nearest.{pair}
 use Rattle.nearest.specs.Boxes.{boxAt, reach}
 use Rattle.nearest.specs.Live.{Rising, Below}
 
