@@ -12,7 +12,7 @@ use Rattle.plane.specs.declared.boxes.Box.{Box}
 use Rattle.plane.specs.Boxes.{hullOf, diamOf}
 use Rattle.nearest.specs.Boxes.{boxAt, reach}
 use Rattle.nearest.specs.Live.{Below}
-use Rattle.nearest.specs.Rows.{Row, rowAt, span, given, held, Sets, Holds, Boxes, Right, Entered}
+use Rattle.nearest.specs.Rows.{Row, rowAt, span, given, held, Sets, Holds, NewBox, Right, Entered}
 use Rattle.nearest.proofs.Members.{all-at}
 
 -- ---- one row at a time: r is right beside the live node at s
@@ -132,10 +132,10 @@ right-enter {bs} {live} {m} {row} {row′} b k is e v low f g j = fits-right (λ
         }
 
 -- ---- how a node enters: the rows are held against it but the last, which has no other partner, and its own is put after them
-pub entered-first : {b : Box} {m k : ℕ} {rows rows′ : List ℕ} → k ≡ 0 → Boxes k b rows rows′ → Entered k b m rows rows′
+pub entered-first : {b : Box} {m k : ℕ} {rows rows′ : List ℕ} → k ≡ 0 → NewBox k b rows rows′ → Entered k b m rows rows′
 entered-first e w = record { holds = λ t h. (let z : ⊥ = omega arith in absurd z); gives = λ t h. (let z : ⊥ = omega arith in absurd z); puts = w .here }
 
-pub entered-more : {b : Box} {m k w : ℕ} {rows rows1 rows2 rows3 : List ℕ} → 0 < k → k < 512 → Holds (k - 1) b m rows rows1 → w ≡ span (rowAt rows1 (k - 1)) b → Sets (k - 1) (given (rowAt rows1 (k - 1)) m w) rows1 rows2 → Boxes k b rows2 rows3 → Entered k b m rows rows3
+pub entered-more : {b : Box} {m k w : ℕ} {rows rows1 rows2 rows3 : List ℕ} → 0 < k → k < 512 → Holds (k - 1) b m rows rows1 → w ≡ span (rowAt rows1 (k - 1)) b → Sets (k - 1) (given (rowAt rows1 (k - 1)) m w) rows1 rows2 → NewBox k b rows2 rows3 → Entered k b m rows rows3
 entered-more {b} {m} {k} {w} {rows} {rows1} {rows2} {rows3} h l f e g p =
     record {
       holds = λ t q. p .others t (omega arith) (λ z. omega arith) ∙ g .others t (omega arith) (λ z. omega arith) ∙ f .first t (omega arith);

@@ -10,7 +10,7 @@ use lib.Dec.{eqb}
 use lib.ListN.{length, getD}
 use Rattle.plane.specs.Boxes.{diamOf}
 use Rattle.plane.specs.declared.boxes.Box.{Box}
-use Rattle.nearest.specs.Rows.{Row, rowAt, span, Spans, Least, FirstLeast, Nearest}
+use Rattle.nearest.specs.Rows.{Row, rowAt, span, Spans, Least, FirstLeast, NearestAfter}
 
 -- what holds below t and at t holds below t + 1
 below-more : (P : ℕ → Type 0) (t : ℕ) → ((s : ℕ) → s < t → P s) → P t → (s : ℕ) → s < t + 1 → P s
@@ -88,7 +88,7 @@ module _ {rows rows′ : List ℕ} (live : List ℕ) {a : ℕ} {b : Box} (is : b
   span-at : (t : ℕ) → a < t → t < length live → getD rows′ (3072 + t) 0 ≡ span (rowAt rows a) (rowAt rows t .box)
   span-at t h l = span-swap rows a t is (v .here t (omega arith) l)
 
-  pub nearest-first : (s : ℕ) → FirstLeast rows′ (3072 + (a + 1)) (length live - (a + 1)) s → Nearest rows live a (record { at = getD live (a + 1 + s) 0; far = getD rows′ (3072 + (a + 1 + s)) 0 })
+  pub nearest-first : (s : ℕ) → FirstLeast rows′ (3072 + (a + 1)) (length live - (a + 1)) s → NearestAfter rows live a (record { at = getD live (a + 1 + s) 0; far = getD rows′ (3072 + (a + 1 + s)) 0 })
   nearest-first s w =
       let here : 3072 + (a + 1) + s ≡ 3072 + (a + 1 + s) = omega arith in
       record {

@@ -16,7 +16,7 @@ use Rattle.nearest.specs.Rule.{In, Leads, Chosen}
 use Rattle.nearest.specs.Rule.In.{hit, next}
 use Rattle.nearest.specs.Boxes.{reach}
 use Rattle.nearest.specs.Live.{Below, Rising}
-use Rattle.nearest.specs.Rows.{Row, rowAt, span, given, Lowest, Nearest, Right, placeOf}
+use Rattle.nearest.specs.Rows.{Row, rowAt, span, given, Lowest, NearestAfter, Right, placeOf}
 use Rattle.nearest.proofs.Members.{all-at, all-in, rising-at}
 use Rattle.nearest.proofs.Ruled.{best-chosen, only-chosen}
 use Rattle.nearest.proofs.Entering.{Fits, right-fits, fits-right, fits-as, span-is}
@@ -91,7 +91,7 @@ module _ {bs live rows : List ℕ} {m a : ℕ} (r : Rising live) (v : Right bs l
           }
 
 -- ---- a row with the first of the nearest is right
-module _ {bs live rows : List ℕ} {m a : ℕ} {r : Near} (up : Rising live) (v : Right bs live m (rowAt rows)) (low : Below m live) (w : Nearest rows live a r) where
+module _ {bs live rows : List ℕ} {m a : ℕ} {r : Near} (up : Rising live) (v : Right bs live m (rowAt rows)) (low : Below m live) (w : NearestAfter rows live a r) where
   span-at : (t : ℕ) → t < length live → span (rowAt rows a) (rowAt rows t .box) ≡ reach bs (getD live a 0) (getD live t 0)
   span-at t h = span-is bs (rowAt rows a) (rowAt rows t .box) (getD live a 0) (getD live t 0) (v .box a (omega (arith, w .later, w .inside))) (v .box t h)
 

@@ -10,7 +10,7 @@ use lib.ListN.{length, getD, set, length-set}
 use lib.Seq.{getD-set-same, getD-set-other}
 use Rattle.plane.specs.Measures.{keptAs}
 use Rattle.plane.specs.declared.boxes.Box.{Box}
-use Rattle.nearest.specs.Rows.{Row, rowAt, Roomy, span, given, held, Sets, Holds, SameRows, Spans, Boxes}
+use Rattle.nearest.specs.Rows.{Row, rowAt, Roomy, span, given, held, Sets, Holds, SameRows, Spans, NewBox}
 
 -- ---- the six numbers of a row, counted
 abbrev pub place : ℕ → ℕ → ℕ
@@ -68,7 +68,7 @@ wrote-row {t} {f} {old} {new} w =
     }
 
 -- a box in four writes
-pub wrote-box : (b : Box) (rows : List ℕ) (t : ℕ) → Roomy rows → t < 512 → Boxes t b rows (set (set (set (set rows t (b .lu .0)) (512 + t) (b .hu .0)) (1024 + t) (b .lv .0)) (1536 + t) (b .hv .0))
+pub wrote-box : (b : Box) (rows : List ℕ) (t : ℕ) → Roomy rows → t < 512 → NewBox t b rows (set (set (set (set rows t (b .lu .0)) (512 + t) (b .hu .0)) (1024 + t) (b .lv .0)) (1536 + t) (b .hv .0))
 wrote-box b rows t r h =
     let w =
     wrote-row

@@ -75,7 +75,7 @@ pub record Holds (k : ℕ) (b : Box) (m : ℕ) (old new : List ℕ) : Type 0 whe
   pub others : (t : ℕ) → k ≤ t → t < 512 → rowAt new t ≡ rowAt old t
 
 -- row t's box is now b, and the other rows are as they were
-pub record Boxes (t : ℕ) (b : Box) (old new : List ℕ) : Type 0 where
+pub record NewBox (t : ℕ) (b : Box) (old new : List ℕ) : Type 0 where
   pub here : rowAt new t .box ≡ b
   pub others : (s : ℕ) → s < 512 → (s ≡ t → ⊥) → rowAt new s ≡ rowAt old s
 
@@ -101,7 +101,7 @@ abbrev pub Lowest : List ℕ → ℕ → ℕ → Type 0
 Lowest rows k a = FirstLeast rows 2048 k a
 
 -- of the live nodes after row a, the first of the nearest
-pub record Nearest (rows live : List ℕ) (a : ℕ) (r : Near) : Type 0 where
+pub record NearestAfter (rows live : List ℕ) (a : ℕ) (r : Near) : Type 0 where
   pub place : ℕ
   pub later : a < place
   pub inside : place < length live

@@ -30,7 +30,7 @@ fn choose(live: &[usize], rows: &[u32]) -> Choice
 }
 
 // The leaf: the places of the best pair of live nodes, which come in rising order. A row whose partner is gone is looked through again only where it comes first:
-// what it keeps is nearer than what is left, so no other pair is passed over.
+// what it keeps is nearer than what is left, so no other pair is passed over. The boxes by node number are not read: they are what the promise speaks of.
 pub fn nearest(live: &[usize], bs: &[u32], rows: &mut [u32]) -> Choice
     requires { ⌜ Caching (now bs) (now live) (now rows) ⌝ }
     ensures { λ r. ⌜ (pairAt (now (live .entry)) r ≡ best (reach (now (bs .entry))) (now (live .entry))) × Picks (now (bs .entry)) (now (live .entry)) (now (rows .entry)) r (now (rows .exit)) ⌝ }

@@ -2,7 +2,7 @@
 ghost use mathlib.Core.Path.{_≡_};
 ghost use Prim.Native.Nat.{_+_, _≤_, _<_};
 ghost use lib.ListN.{set};
-ghost use Rattle.nearest.specs.Rows.{rowAt, Roomy, span, given, held, Sets, Holds, Spans, Boxes, Drops};
+ghost use Rattle.nearest.specs.Rows.{rowAt, Roomy, span, given, held, Sets, Holds, Spans, NewBox, Drops};
 use crate::pair::Near;
 use plane::boxes;
 use plane::boxes::Box;
@@ -87,7 +87,7 @@ pub fn give(rows: &mut [u32], t: usize, q: Near)
 // Row t's box. Its partner is whatever stood there.
 pub fn put_row(rows: &mut [u32], t: usize, b: Box)
     requires { ⌜ Roomy (now rows) × (t < 512) ⌝ }
-    ensures { λ _. ⌜ Boxes t b (now (rows .entry)) (now (rows .exit)) ⌝ }
+    ensures { λ _. ⌜ NewBox t b (now (rows .entry)) (now (rows .exit)) ⌝ }
 {
     rows[t] = measure::kept(b.lu);
     rows[512 + t] = measure::kept(b.hu);
