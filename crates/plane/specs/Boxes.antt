@@ -28,6 +28,10 @@ hullOf a b =
 unfoldable pub diamOf : Box → ℕ
 diamOf b = max (gap (b .hu .0) (b .lu .0)) (gap (b .hv .0) (b .lv .0))
 
+-- no least end is above its greatest
+abbrev pub InOrder : Box → Type 0
+InOrder b = (b .lu .0 ≤ b .hu .0) × (b .lv .0 ≤ b .hv .0)
+
 -- a box as four numbers in memory, and the box that four numbers stand for
 abbrev pub numbersOf : Box → List ℕ
 numbersOf b = b .lu .0 ∷ b .hu .0 ∷ b .lv .0 ∷ b .hv .0 ∷ []

@@ -52,6 +52,13 @@ lowOf hi d = record { 0 = 2 * hi .0 - d }
 abbrev pub highOf : Tilted → ℕ → Doubled
 highOf lo d = record { 0 = 2 * lo .0 + d }
 
+-- the lower of two, and the higher
+abbrev pub lowerOf : Doubled → Doubled → Doubled
+lowerOf a b = record { 0 = min (a .0) (b .0) }
+
+abbrev pub higherOf : Doubled → Doubled → Doubled
+higherOf a b = record { 0 = max (a .0) (b .0) }
+
 -- the value from lo to hi that is nearest to p
 abbrev pub nearOf : Doubled → Doubled → Doubled → Doubled
 nearOf lo hi p = record { 0 = max (lo .0) (min (hi .0) (p .0)) }

@@ -2,7 +2,7 @@
 ghost use mathlib.Core.Path.{_≡_};
 ghost use lib.Dec.{T};
 ghost use Rattle.plane.specs.Range.{inRange};
-ghost use Rattle.plane.specs.Boxes.{pointBox, sinkBox, hullOf, diamOf, numbersOf, boxIn};
+ghost use Rattle.plane.specs.Boxes.{pointBox, sinkBox, hullOf, diamOf, InOrder, numbersOf, boxIn};
 use crate::measure;
 use crate::measure::Tilted;
 
@@ -53,6 +53,16 @@ pub fn diameter(b: Box) -> u32
 {
     let wu = measure::width(b.lu, b.hu);
     let wv = measure::width(b.lv, b.hv);
+    if wu <= wv { wv } else { wu }
+}
+
+// The same, where the ends of both axes stand in order: a plain difference each.
+pub fn breadth(b: Box) -> u32
+    requires { ⌜ InOrder b ⌝ }
+    ensures { λ r. ⌜ r ≡ diamOf b ⌝ }
+{
+    let wu = measure::rise(b.lu, b.hu);
+    let wv = measure::rise(b.lv, b.hv);
     if wu <= wv { wv } else { wu }
 }
 

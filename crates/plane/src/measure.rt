@@ -4,7 +4,7 @@ ghost use mathlib.Core.Path.{_≡_};
 ghost use Prim.Native.Nat.{_*_, _^_, _≤_, _<_};
 ghost use lib.Dec.{T};
 ghost use Rattle.plane.specs.Range.{inRange, equal};
-ghost use Rattle.plane.specs.Measures.{keptAs, gridOf, uOf, vOf, leastOf, greatestOf, gap, lowOf, highOf, nearOf, lowered, unlifted};
+ghost use Rattle.plane.specs.Measures.{keptAs, gridOf, uOf, vOf, leastOf, greatestOf, gap, lowOf, highOf, lowerOf, higherOf, nearOf, lowered, unlifted};
 
 // A coordinate x or y, in grid units.
 pub struct Grid(u32);
@@ -69,6 +69,14 @@ pub fn width(a: Tilted, b: Tilted) -> u32
     if a.0 <= b.0 { b.0 - a.0 } else { a.0 - b.0 }
 }
 
+// The same, where b is not below a.
+pub fn rise(a: Tilted, b: Tilted) -> u32
+    requires { ⌜ a .0 ≤ b .0 ⌝ }
+    ensures { λ r. ⌜ r ≡ gap (b .0) (a .0) ⌝ }
+{
+    b.0 - a.0
+}
+
 // A tilted coordinate, as a number with sign. (That it is small is for the caller's store of the result.)
 pub fn signed(a: Tilted) -> i64
     ensures { λ r. ⌜ (r ≡ unlifted (a .0)) × (a .0 < 2 ^ 32) ⌝ }
@@ -104,17 +112,24 @@ pub fn high_end(lo: Tilted, d: u32) -> Doubled
     Doubled(2 * lo.0 + d)
 }
 
-// The value from lo to hi that is nearest to p.
+// The lower of two, and the higher.
+fn lower(a: Doubled, b: Doubled) -> Doubled
+    ensures { λ r. ⌜ r ≡ lowerOf a b ⌝ }
+{
+    if a.0 <= b.0 { a } else { b }
+}
+
+fn higher(a: Doubled, b: Doubled) -> Doubled
+    ensures { λ r. ⌜ r ≡ higherOf a b ⌝ }
+{
+    if a.0 <= b.0 { b } else { a }
+}
+
+// The value from lo to hi that is nearest to p. Two choices between two numbers each: no branch hangs on where p lies.
 pub fn nearest(lo: Doubled, hi: Doubled, p: Doubled) -> Doubled
     ensures { λ r. ⌜ r ≡ nearOf lo hi p ⌝ }
 {
-    if p.0 <= lo.0 {
-        return lo;
-    }
-    if p.0 <= hi.0 {
-        return p;
-    }
-    if lo.0 <= hi.0 { hi } else { lo }
+    higher(lo, lower(hi, p))
 }
 
 // A doubled coordinate, as a number with sign.

@@ -1,20 +1,17 @@
-use mathlib.Core.Path.{ap}
-use native.Mathlib.Omega.{arith}
-use Rattle.plane.proofs.Numbers.{doubled}
+use mathlib.Core.Path.{ap, _∙_}
+use borrow.Author.Needs.{needs}
+use Rattle.plane.specs.Measures.{higherOf}
 use Rattle.plane.proofs.measure.nearest.Statement.{statement}
 use Rattle.plane.proofs.measure.nearest.Tie as tie
 
+lower-requires : tie.Need-lower-requires
+lower-requires c κs = search needs
+
+higher-requires : tie.Need-higher-requires
+higher-requires c κs = search needs
+
 returns : tie.Need-returns
-returns c = ap doubled (omega arith)
-
-returns-2 : tie.Need-returns-2
-returns-2 c = ap doubled (omega arith)
-
-returns-3 : tie.Need-returns-3
-returns-3 c = ap doubled (omega arith)
-
-returns-4 : tie.Need-returns-4
-returns-4 c = ap doubled (omega arith)
+returns c = c .higher .ensures ∙ ap (higherOf (c .before .before .args .lo)) (c .before .lower .ensures)
 
 pub nearest-spec : {M : Type 1} → statement M
-nearest-spec = tie.close (tie.spec returns returns-2 returns-3 returns-4)
+nearest-spec = tie.close (tie.spec lower-requires higher-requires returns)
