@@ -53,7 +53,7 @@ module _ (δ : ℕ → ℕ) (n k : ℕ) (few : n ≤ 12) (D : ℕ) (far : (s : �
     scanned : getD (tableAfter δ n k) s 0 ≡ foldl (betterAt (δ s) T s) (blankOf s) (examined k s)
     unfolding T
     scanned =
-        let r : s < length (doneTo δ n (s - 1)) = omega (arith, done-length δ n (s - 1) (omega arith)) in
+        let r : s < length (doneTo δ n (s - 1)) = omega (arith, done-length δ n (s - 1)) in
         entry-cut δ n k s pos low
         ∙ ap (λ (t : List ℕ). getD t s 0) (fold-set δ (doneTo δ n (s - 1)) s (examined k s) r parts)
         ∙ getD-set-same (doneTo δ n (s - 1)) s (foldl (betterAt (δ s) (doneTo δ n (s - 1)) s) (getD (doneTo δ n (s - 1)) s 0) (examined k s)) 0 r

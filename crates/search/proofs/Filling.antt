@@ -7,11 +7,11 @@ use mathlib.Core.Path.{_≡_, refl, sym, ap, ap₂, subst, _∙_}
 use mathlib.Core.List.{List, [], _∷_, _++_, map, foldl, foldl-append, map-append}
 use Prim.Native.Nat.{ℕ, zero, suc, _+_, _-_, _^_, _≤_, _<_, min}
 use native.Mathlib.Omega.{arith}
-use native.Mathlib.Numerals.{add-one}
 use lib.ListN.{length, take, drop, getD, set, length-set, length-append, length-map, length-drop, List·getD-append}
 use lib.Seq.{take-nil, set-append-left}
 use Rattle.search.specs.Subsets.{rising, splits}
 use Rattle.search.specs.Table.{blankOf, blanks, costOf, pairUp, stepOf, steps, stepsOf, tableAfter}
+use Rattle.search.proofs.Runs.{fold-length, rising-append, rising-cons}
 use Rattle.search.proofs.Scan.{Parts, parts-splits}
 
 -- ---- the blank table
@@ -20,11 +20,6 @@ pub rising-length : (k i : ℕ) → length (rising k i) ≡ k
 unfolding rising
 rising-length zero i = refl
 rising-length (suc k) i = ap suc (rising-length k (suc i))
-
-rising-snoc : (k i : ℕ) → rising (suc k) i ≡ rising k i ++ ((i + k) ∷ [])
-unfolding rising
-rising-snoc zero i = ap (λ (x : ℕ). x ∷ []) (let e : i ≡ i + 0 = omega arith in e)
-rising-snoc (suc k) i = ap (λ (l : List ℕ). i ∷ l) (rising-snoc k (suc i) ∙ ap (λ (x : ℕ). rising k (suc i) ++ (x ∷ [])) (let e : suc i + k ≡ i + suc k = omega arith in e))
 
 -- the lent table t, blank below s
 abbrev pub blanked : ℕ → List ℕ → List ℕ
@@ -35,12 +30,12 @@ unfolding rising
 blanked-zero t = refl
 
 pub blanked-more : (s : ℕ) (t : List ℕ) → s < length t → set (blanked s t) s (blankOf s) ≡ blanked (s + 1) t
+unfolding rising
 blanked-more s t h =
     let n : length (map blankOf (rising s 0)) ≡ s = length-map (rising s 0) blankOf ∙ rising-length s 0 in
-    let e : rising (suc s) 0 ≡ rising s 0 ++ (s ∷ []) = rising-snoc s 0 ∙ ap (λ (x : ℕ). rising s 0 ++ (x ∷ [])) (let z : 0 + s ≡ s = omega arith in z) in
+    let e : rising (s + 1) 0 ≡ rising s 0 ++ (s ∷ []) = rising-append s 1 0 ∙ ap (λ (x : ℕ). rising s 0 ++ (x ∷ [])) (let z : 0 + s ≡ s = omega arith in z) in
     front-more (map blankOf (rising s 0)) t s (blankOf s) n h
-    ∙ ap (λ (l : List ℕ). l ++ drop (s + 1) t)
-    (sym (map-append blankOf (rising s 0) (s ∷ [])) ∙ ap (map blankOf) (sym e) ∙ ap (λ (x : ℕ). map blankOf (rising x 0)) (sym (add-one s)))
+    ∙ ap (λ (l : List ℕ). l ++ drop (s + 1) t) (sym (map-append blankOf (rising s 0) (s ∷ [])) ∙ ap (map blankOf) (sym e))
 
 pub blanked-length : (s : ℕ) (t : List ℕ) → s ≤ length t → length (blanked s t) ≡ length t
 blanked-length s t h = length-append (map blankOf (rising s 0)) (drop s t) ∙ omega (arith, length-map (rising s 0) blankOf, rising-length s 0, length-drop s t)
@@ -70,12 +65,10 @@ abbrev pub from : ℕ → ℕ → List (ℕ × ℕ)
 from n s = stepsOf (rising (2 ^ n - s) s)
 
 pub from-cons : (n s : ℕ) → s < 2 ^ n → from n s ≡ map (pairUp s) (splits s) ++ from n (s + 1)
-unfolding stepsOf rising
-from-cons n s h =
-    let e : 2 ^ n - s ≡ suc (2 ^ n - (s + 1)) = omega arith in
-    ap (λ (k : ℕ). stepsOf (rising k s)) e ∙ ap (λ (x : ℕ). map (pairUp s) (splits s) ++ stepsOf (rising (2 ^ n - (s + 1)) x)) (sym (add-one s))
+unfolding stepsOf
+from-cons n s h = ap stepsOf (rising-cons (2 ^ n) s h)
 
-from-none : (n s : ℕ) → 2 ^ n ≤ s → from n s ≡ []
+pub from-none : (n s : ℕ) → 2 ^ n ≤ s → from n s ≡ []
 unfolding stepsOf rising
 from-none n s h = ap (λ (k : ℕ). stepsOf (rising k s)) (let e : 2 ^ n - s ≡ 0 = omega arith in e)
 
@@ -123,10 +116,6 @@ fold-front δ b u [] h = refl
 fold-front δ b u (p ∷ l) h =
     ap (λ (x : List ℕ). foldl (stepOf δ) x l) (step-front δ b u p (h .0) (h .1))
     ∙ fold-front δ (stepOf δ b p) u l (subst (λ (k : ℕ). Inside k l) (sym (length-set b (p .0) (min (getD b (p .0) 0) (costOf δ b (p .0) (p .1))))) (h .2))
-
-fold-length : (δ : ℕ → ℕ) (b : List ℕ) (l : List (ℕ × ℕ)) → length (foldl (stepOf δ) b l) ≡ length b
-fold-length δ b [] = refl
-fold-length δ b (p ∷ l) = fold-length δ (stepOf δ b p) l ∙ length-set b (p .0) (min (getD b (p .0) 0) (costOf δ b (p .0) (p .1)))
 
 pub after-length : (δ : ℕ → ℕ) (n k : ℕ) → length (tableAfter δ n k) ≡ 2 ^ n
 unfolding tableAfter

@@ -14,6 +14,7 @@ use Rattle.search.specs.Subsets.{rising, splits}
 use Rattle.search.specs.Table.{betterAt, blankOf, blanks, pairUp, stepOf, steps, stepsOf, tableAfter}
 use Rattle.search.proofs.Counting.{steps-count}
 use Rattle.search.proofs.Filling.{blanks-length}
+use Rattle.search.proofs.Runs.{fold-length, run-other}
 use Rattle.search.proofs.Scan.{Parts, fold-set, parts-splits}
 
 -- only the entries below s matter
@@ -38,23 +39,6 @@ module _ (δ : ℕ → ℕ) where
       foldl-append (stepOf δ) t (map (pairUp i) (splits i)) (stepsOf (rising k (suc i)))
       ∙ ap (λ (x : List ℕ). foldl (stepOf δ) x (stepsOf (rising k (suc i)))) (fold-set δ t i (splits i) l (parts-splits i h))
 
-  run-length : (k i : ℕ) (t : List ℕ) → 0 < i → i + k ≤ length t → length (run k i t) ≡ length t
-  unfolding stepsOf rising
-  run-length zero i t h l = refl
-  run-length (suc k) i t h l =
-      ap length (run-suc k i t h (omega arith))
-      ∙ run-length k (suc i) (set t i (value i t)) (omega arith) (omega (arith, length-set t i (value i t)))
-      ∙ length-set t i (value i t)
-
-  run-keeps : (k i : ℕ) (t : List ℕ) (j : ℕ) → 0 < i → i + k ≤ length t → j < i → getD (run k i t) j 0 ≡ getD t j 0
-  unfolding stepsOf rising
-  run-keeps zero i t j h l b = refl
-  run-keeps (suc k) i t j h l b =
-      let n : j ≢ i = omega arith in
-      ap (λ (x : List ℕ). getD x j 0) (run-suc k i t h (omega arith))
-      ∙ run-keeps k (suc i) (set t i (value i t)) j (omega arith) (omega (arith, length-set t i (value i t))) (omega arith)
-      ∙ getD-set-other t i j (value i t) 0 n
-
   run-value : (k i : ℕ) (t : List ℕ) (s : ℕ) → 0 < i → i + k ≤ length t → i ≤ s → s < i + k
       → getD (run k i t) s 0 ≡ foldl (betterAt (δ s) (run k i t) s) (getD t s 0) (splits s)
   run-value zero i t s h l a b = absurd (omega arith)
@@ -74,9 +58,9 @@ module _ (δ : ℕ → ℕ) where
       go ih (yes e) =
           subst (λ (x : ℕ). getD (run (suc k) i t) x 0 ≡ foldl (betterAt (δ x) (run (suc k) i t) x) (getD t x 0) (splits x)) (sym e)
           (ap (λ (x : List ℕ). getD x i 0) e1
-          ∙ run-keeps k (suc i) t1 i (omega arith) (omega (arith, n1)) (omega arith)
+          ∙ run-other δ k (suc i) t1 i (λ m a b. omega arith)
           ∙ getD-set-same t i (value i t) 0 (omega arith)
-          ∙ better-ext (δ i) t (run (suc k) i t) i (getD t i 0) (splits i) (parts-splits i h) (λ j jl. sym (run-keeps (suc k) i t j h l jl)))
+          ∙ better-ext (δ i) t (run (suc k) i t) i (getD t i 0) (splits i) (parts-splits i h) (λ j jl. sym (run-other δ (suc k) i t j (λ m a b. omega arith))))
       go ih (no e) =
           let n2 : s ≢ i = e in
           ap (λ (x : List ℕ). getD x s 0) e1
@@ -113,10 +97,9 @@ finished-to δ n k l =
           ∙ ap (λ (v : ℕ). foldl (betterAt (δ s) (run δ k 1 (blanks n)) s) v (splits s)) (blank-get n s (omega arith));
     }
 
-pub done-length : (δ : ℕ → ℕ) (n k : ℕ) → k < 2 ^ n → length (doneTo δ n k) ≡ 2 ^ n
+pub done-length : (δ : ℕ → ℕ) (n k : ℕ) → length (doneTo δ n k) ≡ 2 ^ n
 unfolding doneTo
-done-length δ n k l =
-    run-length δ k 1 (blanks n) (omega arith) (omega (arith, blanks-length n)) ∙ blanks-length n
+done-length δ n k = fold-length δ (blanks n) (stepsOf (rising k 1)) ∙ blanks-length n
 
 -- from F(n) steps on it is the finished table
 pub done-all : (δ : ℕ → ℕ) (n budget : ℕ) → stepCount n ≤ budget → tableAfter δ n budget ≡ doneTo δ n (2 ^ n - 1)

@@ -10,6 +10,7 @@ pub mod Lowest
 pub mod Widths
 pub mod Splits
 pub mod Scan
+pub mod Runs
 pub mod Filling
 pub mod Counting
 -- the kept splits, and their joins as they are written
@@ -28,6 +29,13 @@ pub mod Entries
 pub mod Bits
 pub mod Masks
 pub mod NoneShorter
+-- the table by blocks of eight
+pub mod Turning
+pub mod Deals
+pub mod Dealing
+pub mod Filled
+pub mod Opening
+pub mod Advancing
 -- the kept joins are a joining order
 pub mod Named
 pub mod KeptJoins

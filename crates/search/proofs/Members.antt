@@ -18,7 +18,7 @@ keep-in p (y ∷ l) x m = go (p y) refl (keep-in p l x) m
     go true e ih (List·Memᴰ·tail h) = (List·Memᴰ·tail (ih h .0), ih h .1)
     go false e ih h = (List·Memᴰ·tail (ih h .0), ih h .1)
 
-in-keep : (p : ℕ → Bool) (l : List ℕ) (x : ℕ) → List·Memᴰ x l → p x ≡ true → List·Memᴰ x (keep p l)
+pub in-keep : (p : ℕ → Bool) (l : List ℕ) (x : ℕ) → List·Memᴰ x l → p x ≡ true → List·Memᴰ x (keep p l)
 unfolding keep
 in-keep p (y ∷ l) x (List·Memᴰ·head q) e = go (p y) refl
   where
@@ -37,7 +37,7 @@ rising-in zero i x m = elim m [ ]
 rising-in (suc k) i x (List·Memᴰ·head q) = (omega arith, omega arith)
 rising-in (suc k) i x (List·Memᴰ·tail m) = let h = rising-in k (suc i) x m in (omega arith, omega arith)
 
-in-rising : (k i x : ℕ) → i ≤ x → x < i + k → List·Memᴰ x (rising k i)
+pub in-rising : (k i x : ℕ) → i ≤ x → x < i + k → List·Memᴰ x (rising k i)
 unfolding rising
 in-rising zero i x h l = absurd (omega arith)
 in-rising (suc k) i x h l = ⊎-elim (λ p. List·Memᴰ·tail (in-rising k (suc i) x p (omega arith))) (λ p. List·Memᴰ·head (omega arith)) (or-lt i x)

@@ -1,4 +1,4 @@
--- The exact search's definitions. For a reader: Subsets, Best, Table, Entries, Kept, Rooms, Searching. For the code alone: Square, Sums, Prepared.
+-- The exact search's definitions. For a reader: Subsets, Best, Table, Entries, Kept, Rooms, Searching. For the code alone: Square, Sums, Blocks, Prepared.
 pub mod Subsets
 pub mod Best
 pub mod Table
@@ -8,4 +8,5 @@ pub mod Rooms
 pub mod Searching
 pub mod Square
 pub mod Sums
+pub mod Blocks
 pub mod Prepared

@@ -8,7 +8,9 @@ ghost use Rattle.search.specs.Subsets.{splits, lowest};
 ghost use Rattle.search.specs.Best.{stepCount, leastOf};
 ghost use Rattle.search.specs.Table.{stepOf, steps, pairUp, betterAt, blanks, tableAfter};
 ghost use Rattle.search.specs.Square.{held};
+ghost use Rattle.search.specs.Blocks.{Short};
 ghost use Rattle.search.specs.Sums.{Leading, apart, sums, threeOf};
+use crate::blocks;
 use crate::square;
 use crate::subset;
 
@@ -207,7 +209,7 @@ fn fill_some(ds: &[u32], table: &mut [u32], n: u32, budget: u64) -> u64
 
 // Takes at most `budget` steps on a blank table of the subsets of n sinks, where ds are their diameters, and returns how many.
 pub fn fill(ds: &[u32], table: &mut [u32], n: u32, budget: u64) -> u64
-    requires { ⌜ (n ≤ 12) × (2 ^ n ≤ length (now table)) × (2 ^ n ≤ length (now ds)) ⌝ }
+    requires { ⌜ (n ≤ 12) × (2 ^ n ≤ length (now table)) × (2 ^ n ≤ length (now ds)) × Short n (now ds) ⌝ }
     ensures { λ r. ⌜ r ≡ min budget (stepCount n) ⌝ }
     ensures { λ _. ⌜ now (table .exit) ≡ front (tableAfter (held (now (ds .entry))) n budget) (now (table .entry)) ⌝ }
 {
@@ -216,6 +218,11 @@ pub fn fill(ds: &[u32], table: &mut [u32], n: u32, budget: u64) -> u64
     if budget < all {
         return fill_some(ds, table, n, budget);
     }
-    fill_all(ds, table, n);
+    if n <= 3 {
+        fill_all(ds, table, n);
+        return all;
+    }
+    fill_all(ds, table, 3);
+    blocks::fill_rest(ds, table, n);
     all
 }

@@ -12,6 +12,7 @@ use Rattle.search.specs.Subsets.{diam}
 use Rattle.search.specs.Table.{tableAfter}
 use Rattle.search.proofs.Agree.{table-agree}
 use Rattle.search.proofs.Finding.{diameters-are, filled-part}
+use Rattle.search.proofs.Small.{diam-small}
 use borrow.Author.Needs.{needs}
 use Rattle.search.proofs.search.search_joins.Statement.{statement}
 use Rattle.search.proofs.search.search_joins.Tie as tie
@@ -35,8 +36,17 @@ slice-aggregate-fill c = search needs
 
 fill-requires : tie.Need-fill-requires
 fill-requires c κs =
-    let h : c .before .before .before .before .before .before .sinks .result ≤ 12 = omega (arith, c .before .before .before .before .before .before .sinks .ensures, c .before .before .before .before .before .before .before .before .before .pre .few) in
-    (h, rw (c .before .before .before .before .before .before .sinks .ensures) (c .before .before .before .before .before .before .before .before .before .pre .room-table), rw (c .before .before .before .diameters .kept .1 .0) (pow-mono h))
+    let a = c .before .before .before .before .before .before .before .before .before .args in
+    let p = c .before .before .before .before .before .before .before .before .before .pre in
+    let n : c .before .before .before .before .before .before .sinks .result ≡ length (now (a .xs)) = c .before .before .before .before .before .before .sinks .ensures in
+    let h : c .before .before .before .before .before .before .sinks .result ≤ 12 = omega (arith, n, p .few) in
+    let ds : List ℕ = c .before .before .before .diameters .last .1 .0 in
+    let w = diameters-are (now (a .xs)) (now (a .ys)) (a .budget) (p .few) (c .before .before .before .before .before .square .result) ds (c .before .before .before .before .before .square .ensures) (rw (← n) (c .before .before .before .diameters .ensures)) in (
+      h,
+      rw n (p .room-table),
+      rw (c .before .before .before .diameters .kept .1 .0) (pow-mono h),
+      λ m l. omega (arith, w m (rw (← n) l), diam-small (now (a .xs)) (now (a .ys)) (p .ranged) m),
+    )
 
 slice-aggregate-write-joins : tie.Need-slice-aggregate-write-joins
 slice-aggregate-write-joins c = search needs
