@@ -14,7 +14,8 @@ use Rattle.search.specs.Subsets.{rising, splits}
 use Rattle.search.specs.Sums.{sums}
 use Rattle.search.specs.Table.{betterAt, blankOf, pairUp, stepOf, stepsOf}
 use Rattle.search.proofs.Bellman.{large, least-le, small-blank}
-use Rattle.search.proofs.Dealing.{entry-bound, parts-next, steps-value}
+use Rattle.search.proofs.Dealing.{entry-bound, steps-value}
+use Rattle.search.proofs.Parting.{parts-next}
 use Rattle.search.proofs.Digits.{Sub}
 use Rattle.search.proofs.Runs.{fold-length, pairs-other, rising-cons}
 use Rattle.search.proofs.Scan.{fold-set, parts-splits}

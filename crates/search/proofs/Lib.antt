@@ -32,6 +32,7 @@ pub mod NoneShorter
 -- the table by blocks of eight
 pub mod Turning
 pub mod Deals
+pub mod Parting
 pub mod Dealing
 pub mod Filled
 pub mod Opening
