@@ -16,7 +16,7 @@ use Rattle.nearest.specs.Boxes.{boxAt}
 use Rattle.nearest.specs.Live.{All, Rising}
 use Rattle.nearest.specs.Live.All.{none, also}
 use Rattle.nearest.specs.Live.Each.{nil, cons}
-use Rattle.nearest.specs.Rows.{Row, rowAt, skip, Drops, Leaves, Right}
+use Rattle.nearest.specs.Rows.{Row, skip, Right}
 use Rattle.nearest.proofs.Members.{all-at, all-in, not-of, rising-at}
 use Rattle.nearest.proofs.Packed.{two-left}
 use Rattle.nearest.proofs.Moving.{skip-before, skip-after, skip-under, skip-suc, skip-up}
@@ -43,14 +43,6 @@ right-close {bs} {live} {live2} {m} {row} {row′} a b v e f g = fits-right (λ 
               rw (f t k) (w .first (skip b (skip a t)) (up s t l) (omega (arith, under t)) (rw (n, f t k) at q));
           named = λ l. rw n (w .named (omega (arith, under s)));
         }
-
--- the later leaves first, so that the place of the other is still its own
-module _ {a b : ℕ} where
-  pub rows-left : {k : ℕ} {rows rows1 rows2 : List ℕ} → Drops k b rows rows1 → Drops (k - 1) a rows1 rows2 → (t : ℕ) → t + 2 < k → rowAt rows2 t ≡ rowAt rows (skip b (skip a t))
-  rows-left v w t g = w .rest t (omega arith) ∙ v .rest (skip a t) (omega (arith, skip-under a t))
-
-  pub nodes-left : {k : ℕ} {live live1 live2 : List ℕ} → k ≡ length live → k ≡ length live1 → Leaves b live live1 → Leaves a live1 live2 → (t : ℕ) → t + 2 < k → getD live2 t 0 ≡ getD live (skip b (skip a t)) 0
-  nodes-left e f v w t g = w .rest t (omega arith) ∙ v .rest (skip a t) (omega (arith, skip-under a t))
 
 -- ---- and those are the nodes without the pair
 none-out : (p : Pair) {ls : List ℕ} → p .low < p .high → All (λ y. p .high < y) ls → without p ls ≡ ls

@@ -1,13 +1,13 @@
--- One of a run of entries leaves, and those after it move up.
-use mathlib.Core.Path.{_≡_, refl, sym, ap, _∙_}
+-- Entries of a run move up, once two of them have left.
+use mathlib.Core.Path.{_≡_, refl, ap, _∙_}
 use mathlib.Core.Logic.{⊎-elim}
 use mathlib.Core.Bool.{Bool, true, false}
-use Prim.Native.Nat.{ℕ, suc, _+_, _≤_, _<_}
+use Prim.Native.Nat.{ℕ, suc, _+_, _-_, _≤_, _<_}
 use native.Mathlib.Omega.{arith}
 use borrow.Author.Tests.{eqb-true, eqb-false, lt-ltb, le-ltb}
 use lib.Dec.{eqb}
 use Rattle.lists.proofs.Tests.{or-lt}
-use Rattle.nearest.specs.Rows.{skip}
+use Rattle.nearest.specs.Rows.{skip, Shifts}
 
 -- ---- where they came from
 pub skip-before : (a s : ℕ) → s < a → skip a s ≡ s
@@ -32,29 +32,39 @@ skip-up a s t h =
     (λ p. omega (arith, skip-after a t p, skip-under a s))
     (or-lt t a)
 
--- ---- of n entries, those from a on move up, as far as t
-pub record Moving {A : Type 0} (n a : ℕ) (old new : ℕ → A) (t : ℕ) : Type 0 where
-  pub from : a ≤ t
-  pub moved : (s : ℕ) → s < t → new s ≡ old (skip a s)
-  pub others : (s : ℕ) → t ≤ s → s < n → new s ≡ old s
+-- ---- of n entries, a run moves up from its first on, as far as t
+module _ {A : Type 0} {n by : ℕ} where
+  pub shifts-begin : (old : ℕ → A) (from : ℕ) → Shifts n by from from old old
+  shifts-begin old from = record { before = λ s h. refl; moved = λ s h l. absurd (omega arith); after = λ s h l. refl }
 
-module _ {A : Type 0} {n : ℕ} where
-  pub moving-begin : (old : ℕ → A) (a : ℕ) → Moving n a old old a
-  moving-begin old a = record { from = omega arith; moved = λ s h. ap old (sym (skip-before a s h)); others = λ s h l. refl }
-
-  pub moving-turn : {a t : ℕ} {old mid new : ℕ → A} → Moving n a old mid t → t + 1 < n → new t ≡ mid (t + 1) → ((s : ℕ) → s < n → (s ≡ t → ⊥) → new s ≡ mid s) → Moving n a old new (t + 1)
-  moving-turn {a} {t} {old} {mid} {new} v h here others =
+  pub shifts-turn : {from t : ℕ} {old mid new : ℕ → A} → Shifts n by from t old mid → from ≤ t → t + by < n → new t ≡ mid (t + by) → ((s : ℕ) → s < n → (s ≡ t → ⊥) → new s ≡ mid s) → Shifts n by from (t + 1) old new
+  shifts-turn {from} {t} {old} {mid} {new} v f h here others =
       record {
-        from = omega (arith, v .from);
-        moved = λ s l. go s l (eqb s t) refl;
-        others = λ s l g. others s g (λ q. omega (arith, q)) ∙ v .others s (omega arith) g;
+        before = λ s l. others s (omega arith) (λ q. omega (arith, q)) ∙ v .before s l;
+        moved = λ s l g. go s l g (eqb s t) refl;
+        after = λ s l g. others s g (λ q. omega (arith, q)) ∙ v .after s (omega arith) g;
       }
     where
-      go : (s : ℕ) → s < t + 1 → (q : Bool) → eqb s t ≡ q → new s ≡ old (skip a s)
-      go s l true q =
-          let p = eqb-true s t q in
-          let e : t + 1 ≡ skip a t = omega (arith, skip-after a t (v .from)) in
-          ap new p ∙ here ∙ v .others (t + 1) (omega arith) h ∙ ap old e ∙ ap (λ (x : ℕ). old (skip a x)) (sym p)
-      go s l false q =
+      go : (s : ℕ) → from ≤ s → s < t + 1 → (q : Bool) → eqb s t ≡ q → new s ≡ old (s + by)
+      go s l g true q = rw (eqb-true s t q) (here ∙ v .after (t + by) (omega arith) h)
+      go s l g false q =
           let p = eqb-false s t q in
-          others s (omega arith) p ∙ v .moved s (omega (arith, p))
+          others s (omega arith) p ∙ v .moved s l (omega (arith, p))
+
+-- ---- those between a and b move up by one, those after b by two: so both have left
+module _ {A : Type 0} {n m : ℕ} {old mid new : ℕ → A} (a b k : ℕ) (h : a < b) (l : k ≤ n) (v : Shifts n 1 a (b - 1) old mid) (w : Shifts m 2 (b - 1) (k - 2) mid new) where
+  early : (t : ℕ) → t < b - 1 → mid t ≡ old (skip b (skip a t))
+  early t p =
+      ⊎-elim
+      (λ q. (let e = skip-before a t q in let f : t ≡ skip b (skip a t) = omega (arith, skip-before b (skip a t) (omega arith)) in v .before t q ∙ ap old f))
+      (λ q. (let e = skip-after a t q in let f : t + 1 ≡ skip b (skip a t) = omega (arith, skip-before b (skip a t) (omega arith)) in v .moved t q p ∙ ap old f))
+      (or-lt t a)
+
+  late : (t : ℕ) → b - 1 ≤ t → t + 2 < k → mid (t + 2) ≡ old (skip b (skip a t))
+  late t p g =
+      let e = skip-after a t (omega arith) in
+      let f : t + 2 ≡ skip b (skip a t) = omega (arith, skip-after b (skip a t) (omega arith)) in
+      v .after (t + 2) (omega arith) (omega arith) ∙ ap old f
+
+  pub both-left : (t : ℕ) → t + 2 < k → new t ≡ old (skip b (skip a t))
+  both-left t g = ⊎-elim (λ p. w .before t p ∙ early t p) (λ p. w .moved t p (omega arith) ∙ late t p g) (or-lt t (b - 1))

@@ -85,21 +85,21 @@ wrote-held b m rows t r h p u v = rw (u, v, p) (go (ltb (span (rowAt rows t) b) 
     go true = wrote-row (wrote-more 5 m (omega arith) (wrote-more 4 (span (rowAt rows t) b) (omega arith) (wrote-begin rows t r h)))
     go false = wrote-row (wrote-more 5 (num rows t 5) (omega arith) (wrote-more 4 (num rows t 4) (omega arith) (wrote-begin rows t r h)))
 
--- the next row in six writes
-abbrev pub copy : ℕ → List ℕ → ℕ → List ℕ
-copy c rows t = set rows (place c t) (num rows (t + 1) c)
+-- another row in six writes
+abbrev pub copy : ℕ → List ℕ → ℕ → ℕ → List ℕ
+copy c rows t s = set rows (place c t) (num rows s c)
 
-pub wrote-next : (rows : List ℕ) (t : ℕ) → Roomy rows → t + 1 < 512 → Sets t (rowAt rows (t + 1)) rows (copy 5 (copy 4 (copy 3 (copy 2 (copy 1 (copy 0 rows t) t) t) t) t) t)
-wrote-next rows t r h =
-    wrote-row (wrote-copy 5 (t + 1) (omega arith) h n
-    (wrote-copy 4 (t + 1) (omega arith) h n
-    (wrote-copy 3 (t + 1) (omega arith) h n
-    (wrote-copy 2 (t + 1) (omega arith) h n
-    (wrote-copy 1 (t + 1) (omega arith) h n
-    (wrote-copy 0 (t + 1) (omega arith) h n
+pub wrote-later : (rows : List ℕ) (t s : ℕ) → Roomy rows → t < s → s < 512 → Sets t (rowAt rows s) rows (copy 5 (copy 4 (copy 3 (copy 2 (copy 1 (copy 0 rows t s) t s) t s) t s) t s) t s)
+wrote-later rows t s r l h =
+    wrote-row (wrote-copy 5 s (omega arith) h n
+    (wrote-copy 4 s (omega arith) h n
+    (wrote-copy 3 s (omega arith) h n
+    (wrote-copy 2 s (omega arith) h n
+    (wrote-copy 1 s (omega arith) h n
+    (wrote-copy 0 s (omega arith) h n
     (wrote-begin rows t r (omega arith))))))))
   where
-    n : t + 1 ≡ t → ⊥
+    n : s ≡ t → ⊥
     n e = omega arith
 
 -- ---- the first k rows, held one after the other

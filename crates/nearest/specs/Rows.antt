@@ -79,9 +79,18 @@ pub record NewBox (t : ℕ) (b : Box) (old new : List ℕ) : Type 0 where
   pub here : rowAt new t .box ≡ b
   pub others : (s : ℕ) → s < 512 → (s ≡ t → ⊥) → rowAt new s ≡ rowAt old s
 
--- of k rows, row a has left, and those after it moved up
-pub record Drops (k a : ℕ) (old new : List ℕ) : Type 0 where
-  pub rest : (t : ℕ) → t + 1 < k → rowAt new t ≡ rowAt old (skip a t)
+-- of n entries, each of a run is now the one so many later, and the others are as they were
+pub record Shifts {A : Type 0} (n by from to : ℕ) (old new : ℕ → A) : Type 0 where
+  pub before : (t : ℕ) → t < from → new t ≡ old t
+  pub moved : (t : ℕ) → from ≤ t → t < to → new t ≡ old (t + by)
+  pub after : (t : ℕ) → to ≤ t → t < n → new t ≡ old t
+
+-- the same of rows, and of live nodes
+abbrev pub RowsUp : ℕ → ℕ → ℕ → List ℕ → List ℕ → Type 0
+RowsUp by from to old new = Shifts 512 by from to (rowAt old) (rowAt new)
+
+abbrev pub NodesUp : ℕ → ℕ → ℕ → List ℕ → List ℕ → Type 0
+NodesUp by from to old new = Shifts (length old) by from to (λ t. getD old t 0) (λ t. getD new t 0)
 
 -- no row changed
 abbrev pub SameRows : List ℕ → List ℕ → Type 0
@@ -91,10 +100,6 @@ SameRows old new = (s : ℕ) → s < 512 → rowAt new s ≡ rowAt old s
 pub record Spans (from to : ℕ) (b : Box) (old new : List ℕ) : Type 0 where
   pub here : (t : ℕ) → from ≤ t → t < to → getD new (3072 + t) 0 ≡ span (rowAt old t) b
   pub same : SameRows old new
-
--- the live node at place a has left, and those after it moved up
-pub record Leaves (a : ℕ) (old new : List ℕ) : Type 0 where
-  pub rest : (t : ℕ) → t + 1 < length old → getD new t 0 ≡ getD old (skip a t) 0
 
 -- of k rows, a is the first of those whose partner is nearest
 abbrev pub Lowest : List ℕ → ℕ → ℕ → Type 0

@@ -10,16 +10,17 @@ use crate::rows;
 use crate::table;
 use plane::boxes::Box;
 
-// The two nodes of a pair leave with their rows, and node m is live after all others. The later of the two leaves first, so that the place of the other is still its own.
+// The two nodes of a pair leave with their rows, and node m is live after all others. Those between the two move up by one place, those after both by two: each moves once.
 pub fn close(live: &mut [usize], rows: &mut [u32], c: Choice, m: usize)
     requires { ⌜ Roomy (now rows) × (length (now live) ≤ 512) × (c .row < c .with) × (c .with < length (now live)) ⌝ }
     ensures { λ _. ⌜ Closed c m (now (live .entry)) (now (live .exit)) (now (rows .entry)) (now (rows .exit)) ⌝ }
 {
     let k = live.len();
-    rows::drop_row(rows, k, c.with);
-    rows::drop_row(rows, k - 1, c.row);
-    live::drop_at(live, c.with);
-    live::drop_at(live, c.row);
+    let b = c.with - 1;
+    rows::up_one(rows, c.row, b);
+    rows::up_two(rows, b, k - 2);
+    live::up_one(live, c.row, b);
+    live::up_two(live, b, k - 2);
     live[k - 2] = m;
 }
 

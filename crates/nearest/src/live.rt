@@ -1,9 +1,9 @@
 // The live nodes, packed: they stand at the front of one list, in rising order, with no joined node among them.
 ghost use mathlib.Core.Path.{_≡_};
-ghost use Prim.Native.Nat.{_<_};
+ghost use Prim.Native.Nat.{_+_, _≤_, _<_};
 ghost use lib.ListN.{length};
 ghost use Rattle.lists.specs.Grow.{upTo};
-ghost use Rattle.nearest.specs.Rows.{placeOf, Leaves};
+ghost use Rattle.nearest.specs.Rows.{placeOf, NodesUp};
 
 // All sinks are live.
 pub fn begin(live: &mut [usize])
@@ -16,14 +16,26 @@ pub fn begin(live: &mut [usize])
     }
 }
 
-// The node at place a leaves: those after it move up. Nothing is asked of them, so many move at a time.
-pub fn drop_at(live: &mut [usize], a: usize)
-    requires { ⌜ a < length (now live) ⌝ }
-    ensures { λ _. ⌜ Leaves a (now (live .entry)) (now (live .exit)) ⌝ }
+// Each node of a run becomes the one after it. How far nodes move is a plain number here and in the next: so many move at a time.
+pub fn up_one(live: &mut [usize], from: usize, to: usize)
+    requires { ⌜ (from ≤ to) × (to < length (now live)) ⌝ }
+    ensures { λ _. ⌜ NodesUp 1 from to (now (live .entry)) (now (live .exit)) ⌝ }
 {
-    let mut t = a;
-    while t + 1 < live.len() {
+    let mut t = from;
+    while t < to {
         live[t] = live[t + 1];
+        t += 1;
+    }
+}
+
+// Each node of a run becomes the second after it.
+pub fn up_two(live: &mut [usize], from: usize, to: usize)
+    requires { ⌜ (from ≤ to) × (to + 1 < length (now live)) ⌝ }
+    ensures { λ _. ⌜ NodesUp 2 from to (now (live .entry)) (now (live .exit)) ⌝ }
+{
+    let mut t = from;
+    while t < to {
+        live[t] = live[t + 2];
         t += 1;
     }
 }

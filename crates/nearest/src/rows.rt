@@ -2,7 +2,7 @@
 ghost use mathlib.Core.Path.{_≡_};
 ghost use Prim.Native.Nat.{_+_, _≤_, _<_};
 ghost use lib.ListN.{set};
-ghost use Rattle.nearest.specs.Rows.{rowAt, Roomy, span, given, held, Sets, Holds, Spans, NewBox, Drops};
+ghost use Rattle.nearest.specs.Rows.{rowAt, Roomy, span, given, held, Sets, Holds, Spans, NewBox, RowsUp};
 use crate::pair::Near;
 use plane::boxes;
 use plane::boxes::Box;
@@ -95,12 +95,11 @@ pub fn put_row(rows: &mut [u32], t: usize, b: Box)
     rows[1536 + t] = measure::kept(b.hv);
 }
 
-// Row t + 1 moves to t.
-fn move_up(rows: &mut [u32], t: usize)
-    requires { ⌜ Roomy (now rows) × (t + 1 < 512) ⌝ }
-    ensures { λ _. ⌜ Sets t (rowAt (now (rows .entry)) (t + 1)) (now (rows .entry)) (now (rows .exit)) ⌝ }
+// Row s moves to t.
+fn move_up(rows: &mut [u32], t: usize, s: usize)
+    requires { ⌜ Roomy (now rows) × (t < s) × (s < 512) ⌝ }
+    ensures { λ _. ⌜ Sets t (rowAt (now (rows .entry)) s) (now (rows .entry)) (now (rows .exit)) ⌝ }
 {
-    let s = t + 1;
     rows[t] = rows[s];
     rows[512 + t] = rows[512 + s];
     rows[1024 + t] = rows[1024 + s];
@@ -109,14 +108,26 @@ fn move_up(rows: &mut [u32], t: usize)
     rows[2560 + t] = rows[2560 + s];
 }
 
-// Row a of k leaves: those after it move up.
-pub fn drop_row(rows: &mut [u32], k: usize, a: usize)
-    requires { ⌜ Roomy (now rows) × (k ≤ 512) × (a < k) ⌝ }
-    ensures { λ _. ⌜ Drops k a (now (rows .entry)) (now (rows .exit)) ⌝ }
+// Each row of a run becomes the one after it. How far rows move is a plain number here and in the next: so many move at a time.
+pub fn up_one(rows: &mut [u32], from: usize, to: usize)
+    requires { ⌜ Roomy (now rows) × (from ≤ to) × (to < 512) ⌝ }
+    ensures { λ _. ⌜ RowsUp 1 from to (now (rows .entry)) (now (rows .exit)) ⌝ }
 {
-    let mut t = a;
-    while t + 1 < k {
-        move_up(rows, t);
+    let mut t = from;
+    while t < to {
+        move_up(rows, t, t + 1);
+        t += 1;
+    }
+}
+
+// Each row of a run becomes the second after it.
+pub fn up_two(rows: &mut [u32], from: usize, to: usize)
+    requires { ⌜ Roomy (now rows) × (from ≤ to) × (to + 1 < 512) ⌝ }
+    ensures { λ _. ⌜ RowsUp 2 from to (now (rows .entry)) (now (rows .exit)) ⌝ }
+{
+    let mut t = from;
+    while t < to {
+        move_up(rows, t, t + 2);
         t += 1;
     }
 }
