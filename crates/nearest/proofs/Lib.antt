@@ -12,6 +12,7 @@ pub mod Rowing
 pub mod Leasts
 pub mod Entering
 pub mod Closing
+pub mod Halving
 pub mod Picking
 pub mod Ending
 -- from join to join, and the calls

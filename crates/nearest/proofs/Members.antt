@@ -1,12 +1,14 @@
 -- What holds of each entry of a list, and of each entry with those after it.
 use mathlib.Core.Path.{_≡_, refl, ap, _∙_}
+use mathlib.Core.Logic.{⊎-elim}
 use mathlib.Core.Bool.{Bool, true, false, cond}
 use mathlib.Core.List.{List, [], _∷_, _++_}
-use Prim.Native.Nat.{ℕ, zero, suc, _+_, _-_, _<_}
+use Prim.Native.Nat.{ℕ, zero, suc, _+_, _-_, _≤_, _<_}
 use native.Mathlib.Omega.{arith}
 use borrow.Author.Tests.{ne-eqb}
 use lib.ListN.{length, getD, drop, length-drop}
 use lib.Seq.{getD-drop}
+use Rattle.lists.proofs.Tests.{or-lt}
 use Rattle.nearest.specs.declared.pair.Pair.{Pair}
 use Rattle.nearest.specs.Nearest.{isOf, without}
 use Rattle.nearest.specs.Rule.{In}
@@ -109,3 +111,7 @@ rising-at {ls} s t r h l =
     let e : suc s + (t - suc s) ≡ t = omega arith in
     let q : getD (drop (suc s) ls) (t - suc s) 0 ≡ getD ls t 0 = getD-drop (suc s) ls (t - suc s) 0 ∙ ap (λ (o : ℕ). getD ls o 0) e in
     omega (arith, q, a)
+
+pub rising-up : {ls : List ℕ} (s t : ℕ) → Rising ls → s ≤ t → t < length ls → getD ls s 0 ≤ getD ls t 0
+rising-up {ls} s t r h l =
+    ⊎-elim (λ p. omega (arith, rising-at s t r p l)) (λ p. (let e : s ≡ t = omega arith in let f = ap (λ (o : ℕ). getD ls o 0) e in omega arith)) (or-lt s t)

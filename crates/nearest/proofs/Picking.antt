@@ -3,7 +3,7 @@ use mathlib.Core.Path.{_≡_, refl, sym, ap, subst, _∙_}
 use mathlib.Core.Logic.{⊎-elim}
 use mathlib.Core.Bool.{Bool, true, false}
 use mathlib.Core.List.{List}
-use Prim.Native.Nat.{ℕ, zero, suc, _-_, _≤_, _<_}
+use Prim.Native.Nat.{ℕ, zero, suc, _-_, _<_}
 use native.Mathlib.Omega.{arith}
 use borrow.Author.Tests.{eqb-true, eqb-false}
 use lib.Dec.{eqb}
@@ -17,7 +17,7 @@ use Rattle.nearest.specs.Rule.In.{hit, next}
 use Rattle.nearest.specs.Boxes.{reach}
 use Rattle.nearest.specs.Live.{Below, Rising}
 use Rattle.nearest.specs.Rows.{Row, rowAt, span, given, Lowest, NearestAfter, Right, placeOf}
-use Rattle.nearest.proofs.Members.{all-at, all-in, rising-at}
+use Rattle.nearest.proofs.Members.{all-at, all-in, rising-at, rising-up}
 use Rattle.nearest.proofs.Ruled.{best-chosen, only-chosen}
 use Rattle.nearest.proofs.Entering.{Fits, right-fits, fits-right, fits-as, span-is}
 
@@ -49,10 +49,6 @@ pub hit-at : (ls : List ℕ) (x : ℕ) {t : ℕ} → t ≡ placeOf ls x → (t �
 hit-at ls x {t} e n =
     let h : t < length ls = omega (arith, n, e, first-end (λ j. eqb (getD ls j 0) x) 0 (length ls)) in
     (h, rw e (eqb-true (getD ls (placeOf ls x) 0) x (first-hit (λ j. eqb (getD ls j 0) x) 0 (length ls) (omega (arith, h, e)))))
-
-rising-up : {ls : List ℕ} (s t : ℕ) → Rising ls → s ≤ t → t < length ls → getD ls s 0 ≤ getD ls t 0
-rising-up {ls} s t r h l =
-    ⊎-elim (λ p. omega (arith, rising-at s t r p l)) (λ p. (let e : s ≡ t = omega arith in let f = ap (λ (o : ℕ). getD ls o 0) e in omega arith)) (or-lt s t)
 
 -- ---- the pair to join
 module _ {bs live rows : List ℕ} {m a : ℕ} (r : Rising live) (v : Right bs live m (rowAt rows)) (k : ℕ) (e : k ≡ length live) (w : Lowest rows (k - 1) a) (b : ℕ) (h : b < k) (n : getD live b 0 ≡ rowAt rows a .at) where

@@ -4,6 +4,7 @@ ghost use Prim.Native.Nat.{_≤_, _<_};
 ghost use lib.ListN.{length};
 ghost use Rattle.nearest.specs.Nearest.{best};
 ghost use Rattle.nearest.specs.Boxes.{reach};
+ghost use Rattle.nearest.specs.Live.{Rising};
 ghost use Rattle.nearest.specs.Rows.{pairAt, Roomy, Caching, Chooses, Picks};
 use crate::live;
 use crate::lowest;
@@ -18,7 +19,7 @@ pub struct Choice {
 
 // The first of the rows whose partner is nearest. The last row has no partner.
 fn choose(live: &[usize], rows: &[u32]) -> Choice
-    requires { ⌜ Roomy (now rows) × (2 ≤ length (now live)) × (length (now live) ≤ 512) ⌝ }
+    requires { ⌜ Rising (now live) × Roomy (now rows) × (2 ≤ length (now live)) × (length (now live) ≤ 512) ⌝ }
     ensures { λ r. ⌜ Chooses (now (live .entry)) (now (rows .entry)) r ⌝ }
 {
     let a = lowest::lowest(rows, live.len() - 1);

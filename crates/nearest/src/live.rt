@@ -3,6 +3,7 @@ ghost use mathlib.Core.Path.{_≡_};
 ghost use Prim.Native.Nat.{_+_, _≤_, _<_};
 ghost use lib.ListN.{length};
 ghost use Rattle.lists.specs.Grow.{upTo};
+ghost use Rattle.nearest.specs.Live.{Rising};
 ghost use Rattle.nearest.specs.Rows.{placeOf, NodesUp};
 
 // All sinks are live.
@@ -40,16 +41,26 @@ pub fn up_two(live: &mut [usize], from: usize, to: usize)
     }
 }
 
-// Where a node stands; how many there are, where it is not live.
+// Where a node stands; how many there are, where it is not live. The nodes rise, so each look leaves half of them.
 pub fn place(live: &[usize], x: usize) -> usize
+    requires { ⌜ Rising (now live) ⌝ }
     ensures { λ r. ⌜ r ≡ placeOf (now (live .entry)) x ⌝ }
 {
-    let mut i = 0;
-    while i < live.len() {
-        if live[i] == x {
-            return i;
+    let mut lo = 0;
+    let mut hi = live.len();
+    while lo < hi {
+        let mid = lo + (hi - lo) / 2;
+        if live[mid] < x {
+            lo = mid + 1;
+        } else {
+            hi = mid;
         }
-        i += 1;
     }
-    i
+    if lo == live.len() {
+        return lo;
+    }
+    if live[lo] == x {
+        return lo;
+    }
+    live.len()
 }

@@ -18,7 +18,7 @@ abbrev μ-loop : tie.MeasureT-loop
 μ-loop live bs rows₀ c₀ rows c = gone live rows (length live - 1)
 
 choose-requires : tie.Need-choose-requires Inv-loop μ-loop
-choose-requires c κs = (let o = c .before .before .before .before .pre in (o .roomy, o .two, o .few))
+choose-requires c κs = (let o = c .before .before .before .before .pre in (o .rising, o .roomy, o .two, o .few))
 
 loop-holds : tie.Need-loop-holds Inv-loop μ-loop
 loop-holds c = (refl, λ m b v. v, c .choose .ensures)
@@ -37,7 +37,7 @@ give-requires c κs =
     (omega (arith, o .roomy, v .0, c .before .before .rows .given), omega (arith, v .2 .lowest .one, o .few), omega (arith, q .names, all-at (q .place) (o .low) (q .inside), o .few-nodes))
 
 choose-requires-2 : tie.Need-choose-requires-2 Inv-loop μ-loop
-choose-requires-2 c κs = (let o = c .before .before .before .before .before .before .before .before .before .before .before .before .before .before .before .before .before .pre in (omega (arith, o .roomy, c .before .before .before .before .before .before .before .before .before .before .before .loop .inv .0, c .before .before .before .before .before .before .rows .given, c .before .before .rows2 .given), o .two, o .few))
+choose-requires-2 c κs = (let o = c .before .before .before .before .before .before .before .before .before .before .before .before .before .before .before .before .before .pre in (o .rising, omega (arith, o .roomy, c .before .before .before .before .before .before .before .before .before .before .before .loop .inv .0, c .before .before .before .before .before .before .rows .given, c .before .before .rows2 .given), o .two, o .few))
 
 loop-less : tie.Need-loop-less Inv-loop μ-loop
 loop-less c =

@@ -1,41 +1,60 @@
-use Prim.Native.Nat.{_-_}
+use Prim.Native.Nat.{_+_, _-_, _/_}
 use native.Mathlib.Omega.{arith}
-use borrow.Author.Tests.{eq-eqb, ne-eqb}
-use lib.Dec.{eqb}
-use lib.ListN.{length, getD}
-use Rattle.lists.proofs.First.{Seek, seek-begin, seek-go, seek-stop, seek-end}
+use denote.Ref.{now}
+use Rattle.nearest.proofs.Halving.{Halves, halves-begin, halves-more, halves-less, halves-end, halves-hit, halves-miss}
 use Rattle.nearest.proofs.live.place.Statement.{statement}
 use Rattle.nearest.proofs.live.place.Tie as tie
 
 abbrev Inv-loop : tie.InvT-loop
-Inv-loop live x i₀ i = Seek (λ j. eqb (getD live j 0) x) (length live) i
+Inv-loop live x lo₀ hi₀ lo hi = Halves live x lo hi
 
 abbrev μ-loop : tie.MeasureT-loop
-μ-loop live x i₀ i = length live - i
+μ-loop live x lo₀ hi₀ lo hi = hi - lo
 
 loop-holds : tie.Need-loop-holds Inv-loop μ-loop
-loop-holds c = seek-begin
+loop-holds c = halves-begin (now (c .args .live)) (c .args .x)
+
+sub-mid : tie.Need-sub-mid Inv-loop μ-loop
+sub-mid c = omega arith
+
+add-mid : tie.Need-add-mid Inv-loop μ-loop
+add-mid c = omega arith
 
 mul-if1 : tie.Need-mul-if1 Inv-loop μ-loop
-mul-if1 c = omega arith
+mul-if1 c = omega (arith, c .before .loop .inv .inside)
 
 shared-slice-read-if1 : tie.Need-shared-slice-read-if1 Inv-loop μ-loop
-shared-slice-read-if1 c = omega arith
+shared-slice-read-if1 c = omega (arith, c .before .before .loop .inv .inside)
 
-returns : tie.Need-returns Inv-loop μ-loop
-returns c = seek-stop (c .before .before .before .loop .inv) (c .before .before .loop-test .taken) (eq-eqb _ _ (c .if1 .taken))
-
-add-i : tie.Need-add-i Inv-loop μ-loop
-add-i c = omega arith
+add-lo : tie.Need-add-lo Inv-loop μ-loop
+add-lo c = omega (arith, c .before .before .before .loop .inv .inside)
 
 loop-less : tie.Need-loop-less Inv-loop μ-loop
 loop-less c = omega arith
 
 loop-again : tie.Need-loop-again Inv-loop μ-loop
-loop-again c = seek-go (c .before .before .before .loop .inv) (c .before .before .loop-test .taken) (ne-eqb _ _ (c .if1 .left))
+loop-again c = let l = c .before .before .before .loop in halves-more (l .lo + (l .hi - l .lo) / 2) (c .before .before .before .before .pre) (l .inv) (omega arith) (c .if1 .taken)
+
+loop-less-2 : tie.Need-loop-less-2 Inv-loop μ-loop
+loop-less-2 c = omega arith
+
+loop-again-2 : tie.Need-loop-again-2 Inv-loop μ-loop
+loop-again-2 c = let l = c .before .before .before .loop in halves-less (l .lo + (l .hi - l .lo) / 2) (c .before .before .before .before .pre) (l .inv) (omega arith) (omega arith) (c .if1 .left)
+
+returns : tie.Need-returns Inv-loop μ-loop
+returns c = halves-end (now (c .before .before .before .args .live)) (c .before .before .before .args .x) (c .before .before .loop .inv) (c .before .loop-test .left) (c .if2 .taken)
+
+mul-if3 : tie.Need-mul-if3 Inv-loop μ-loop
+mul-if3 c = omega (arith, c .before .before .loop .inv .up, c .before .before .loop .inv .inside)
+
+shared-slice-read-if3 : tie.Need-shared-slice-read-if3 Inv-loop μ-loop
+shared-slice-read-if3 c = omega (arith, c .before .if2 .left, c .before .before .before .loop .inv .up, c .before .before .before .loop .inv .inside)
 
 returns-2 : tie.Need-returns-2 Inv-loop μ-loop
-returns-2 c = seek-end (c .before .loop .inv) (c .loop-test .left)
+returns-2 c = halves-hit (now (c .before .before .before .before .before .args .live)) (c .before .before .before .before .before .args .x) (c .before .before .before .before .loop .inv) (c .before .before .before .loop-test .left) (omega (arith, c .before .before .if2 .left, c .before .before .before .before .loop .inv .up, c .before .before .before .before .loop .inv .inside)) (c .if3 .taken)
+
+returns-3 : tie.Need-returns-3 Inv-loop μ-loop
+returns-3 c = halves-miss (now (c .before .before .before .before .before .args .live)) (c .before .before .before .before .before .args .x) (c .before .before .before .before .loop .inv) (c .before .before .before .loop-test .left) (c .before .before .before .before .before .pre) (omega (arith, c .before .before .if2 .left, c .before .before .before .before .loop .inv .up, c .before .before .before .before .loop .inv .inside)) (c .if3 .left)
 
 pub place-spec : {M : Type 1} → statement M
 place-spec =
@@ -44,10 +63,17 @@ place-spec =
     Inv-loop
     μ-loop
     loop-holds
+    sub-mid
+    add-mid
     mul-if1
     shared-slice-read-if1
-    returns
-    add-i
+    add-lo
     loop-less
     loop-again
-    returns-2)
+    loop-less-2
+    loop-again-2
+    returns
+    mul-if3
+    shared-slice-read-if3
+    returns-2
+    returns-3)
