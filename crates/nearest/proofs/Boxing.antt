@@ -8,6 +8,9 @@ use borrow.Author.Tests.{eqb-true, eqb-false}
 use lib.Dec.{eqb}
 use lib.ListN.{length, getD, set, length-set}
 use lib.Seq.{getD-set-same, getD-set-other}
+use Rattle.zero_skew.specs.Plane.{Sinks}
+use Rattle.plane.specs.Boxes.{hullOf, InOrder}
+use Rattle.plane.specs.Covers.{Covers}
 use Rattle.plane.specs.declared.boxes.Box.{Box}
 use Rattle.nearest.specs.Boxes.{boxAt, Boxed, Puts}
 
@@ -71,3 +74,10 @@ puts-each P {k} {b} {old} {new} w f p i h = go (eqb i k) refl
     go : (t : Bool) → eqb i k ≡ t → P i (boxAt new i)
     go true e = let q = eqb-true i k e in rw q (rw (w .here) p)
     go false e = let q = eqb-false i k e in rw (w .before i (omega (arith, q))) (f i (omega (arith, q)))
+
+-- ---- ends in order
+pub hull-in-order : (a b : Box) → InOrder b → InOrder (hullOf a b)
+hull-in-order a b h = (omega (arith, h .0), omega (arith, h .1))
+
+pub covers-in-order : {s : Sinks} {l : List ℕ} {b : Box} → Covers s l b → InOrder b
+covers-in-order v = (v .fair .u-up, v .fair .v-up)

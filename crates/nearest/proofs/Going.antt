@@ -1,5 +1,5 @@
 -- The code's lists beside the definition's, from join to join.
-use mathlib.Core.Path.{_≡_, refl, sym, ap, _∙_}
+use mathlib.Core.Path.{_≡_, refl, sym, ap, subst, _∙_}
 use mathlib.Core.Bool.{Bool, true, false}
 use mathlib.Core.List.{List, [], _∷_, _++_, append-nil, append-assoc}
 use Prim.Native.Nat.{ℕ, suc, _+_, _-_, _*_, _≤_, _<_}
@@ -14,7 +14,7 @@ use Rattle.lists.specs.Grow.{front, upTo}
 use Rattle.lists.proofs.Grow.{getD-tab, length-upTo, upTo-more}
 use Rattle.zero_skew.specs.Plane.{Sinks}
 use Rattle.plane.specs.declared.boxes.Box.{Box}
-use Rattle.plane.specs.Boxes.{hullOf}
+use Rattle.plane.specs.Boxes.{hullOf, InOrder}
 use Rattle.plane.specs.Covers.{Covers}
 use Rattle.plane.specs.Sinks.{sinksAt}
 use Rattle.plane.proofs.Covering.{covers-hull, covers-diam}
@@ -27,6 +27,7 @@ use Rattle.nearest.specs.Rows.{rowAt, Roomy, skip, Right, Caching, pairA
 use Rattle.nearest.specs.Rounds.{Open, Made, Round}
 use Rattle.nearest.proofs.Members.{all-without, in-all}
 use Rattle.nearest.proofs.Pairs.{Within, best-same}
+use Rattle.nearest.proofs.Boxing.{hull-in-order, covers-in-order}
 use Rattle.nearest.proofs.Packed.{packed-begin, packed-within}
 use Rattle.nearest.proofs.Running.{Running, more, running-begin, running-turn}
 use Rattle.nearest.proofs.Entering.{right-same, right-enter}
@@ -101,6 +102,7 @@ open-caching {n} {i} o =
     record {
       top = n + i;
       right = o .right;
+      upright = o .upright;
       rising = p .rising;
       low = p .low;
       few-nodes = omega (arith, o .turn, o .few);
@@ -115,6 +117,10 @@ within-low v w = (in-all (w .low-in) (v .low), in-all (w .high-in) (v .low))
 
 pub open-low : {n i : ℕ} {bs live rows js : List ℕ} (p : Pair) → Open n i bs live rows js → p ≡ best (reach bs) live → (p .low < n + i) × (p .high < n + i)
 open-low {bs = bs} p o e = rw e (within-low (o .packed) (packed-within (reach bs) (o .packed) (o .turn)))
+
+-- and its hull has its ends in order
+pub open-upright : {n i : ℕ} {bs bs′ live rows js : List ℕ} (p : Pair) (b : Box) → Open n i bs live rows js → p ≡ best (reach bs) live → Puts (n + i) (hullOf (boxAt bs (p .low)) (boxAt bs (p .high))) bs bs′ → b ≡ boxAt bs′ (n + i) → InOrder b
+open-upright {bs = bs} p b o e w is = subst InOrder (sym (is ∙ w .here)) (hull-in-order (boxAt bs (p .low)) (boxAt bs (p .high)) (o .upright (p .high) (open-low p o e .1)))
 
 -- ---- after a join: the two left, and the new node entered after the others
 module _ {n i : ℕ} {bs live rows rows1 js : List ℕ} (c : Choice) (o : Open n i bs live rows js) (k : Picks bs live rows c rows1) where
@@ -185,7 +191,7 @@ module _ {s : Sinks} {n i : ℕ} {bs bs′ live live′ rows rows′ js₀ js js
       }
 
 pub going-open : {s : Sinks} {n i : ℕ} {bs live rows js₀ js : List ℕ} → Going s n i bs live rows js₀ js → i + 1 < n → n ≤ 512 → 4092 ≤ length bs → Roomy rows → 2 * (n - 1) ≤ length js₀ → Open n i bs live rows js
-going-open v h f b l r = record { packed = v .running .packed; right = v .right; turn = h; few = f; box-room = omega arith; roomy = l; room = omega (arith, v .size) }
+going-open v h f b l r = record { packed = v .running .packed; right = v .right; upright = λ k l. covers-in-order (v .held .covers k l); turn = h; few = f; box-room = omega arith; roomy = l; room = omega (arith, v .size) }
 
 pub going-end : {s : Sinks} {n i : ℕ} {bs live rows js₀ js : List ℕ} → Going s n i bs live rows js₀ js → i ≡ n - 1 → 2 * (n - 1) ≤ length js₀ → js ≡ front (order s n) js₀
 unfolding joins

@@ -10,11 +10,12 @@ use lib.Dec.{eqb}
 use lib.ListN.{length, getD}
 use Rattle.lists.proofs.First.{first-end, first-hit, first-none}
 use Rattle.lists.proofs.Tests.{or-lt}
+use Rattle.plane.specs.Boxes.{InOrder}
 use Rattle.nearest.specs.declared.pair.Near.{Near}
 use Rattle.nearest.specs.Nearest.{pair, best}
 use Rattle.nearest.specs.Rule.{In, Leads, Chosen}
 use Rattle.nearest.specs.Rule.In.{hit, next}
-use Rattle.nearest.specs.Boxes.{reach}
+use Rattle.nearest.specs.Boxes.{Upright, reach}
 use Rattle.nearest.specs.Live.{Below, Rising}
 use Rattle.nearest.specs.Rows.{Row, rowAt, span, given, Lowest, NearestAfter, Right, placeOf}
 use Rattle.nearest.proofs.Members.{all-at, all-in, rising-at, rising-up}
@@ -49,6 +50,10 @@ pub hit-at : (ls : List ℕ) (x : ℕ) {t : ℕ} → t ≡ placeOf ls x → (t �
 hit-at ls x {t} e n =
     let h : t < length ls = omega (arith, n, e, first-end (λ j. eqb (getD ls j 0) x) 0 (length ls)) in
     (h, rw e (eqb-true (getD ls (placeOf ls x) 0) x (first-hit (λ j. eqb (getD ls j 0) x) 0 (length ls) (omega (arith, h, e)))))
+
+-- the box of a row has its ends in order, as those of all nodes have
+pub row-in-order : {bs live : List ℕ} {m : ℕ} {row : ℕ → Row} (t : ℕ) → Upright m bs → Below m live → Right bs live m row → t < length live → InOrder (row t .box)
+row-in-order {live = live} t u low v h = subst InOrder (sym (v .box t h)) (u (getD live t 0) (all-at t low h))
 
 -- ---- the pair to join
 module _ {bs live rows : List ℕ} {m a : ℕ} (r : Rising live) (v : Right bs live m (rowAt rows)) (k : ℕ) (e : k ≡ length live) (w : Lowest rows (k - 1) a) (b : ℕ) (h : b < k) (n : getD live b 0 ≡ rowAt rows a .at) where

@@ -7,13 +7,17 @@ use lib.ListN.{length, getD}
 use Rattle.plane.specs.Sinks.{sinksAt}
 use Rattle.plane.specs.Covers.{Covers}
 use Rattle.plane.specs.Measures.{keptAs}
-use Rattle.plane.specs.Boxes.{hullOf, diamOf}
+use Rattle.plane.specs.Boxes.{hullOf, diamOf, InOrder}
 use Rattle.plane.specs.declared.boxes.Box.{Box}
 
 -- the box of node k: its least and greatest u, its least and greatest v
 abbrev pub boxAt : List ℕ → ℕ → Box
 boxAt bs k =
     record { lu = keptAs (getD bs (4 * k) 0); hu = keptAs (getD bs (4 * k + 1) 0); lv = keptAs (getD bs (4 * k + 2) 0); hv = keptAs (getD bs (4 * k + 3) 0) }
+
+-- the boxes of the first m nodes have their ends in order
+abbrev pub Upright : ℕ → List ℕ → Type 0
+Upright m bs = (k : ℕ) → k < m → InOrder (boxAt bs k)
 
 -- the list has room for the box of node k
 abbrev pub Boxed : List ℕ → ℕ → Type 0

@@ -6,7 +6,7 @@ use lib.ListN.{length, take, set}
 use Rattle.plane.specs.Boxes.{hullOf}
 use Rattle.nearest.specs.declared.pair.Pair.{Pair}
 use Rattle.nearest.specs.Nearest.{best, after}
-use Rattle.nearest.specs.Boxes.{boxAt, reach, Boxed, Puts}
+use Rattle.nearest.specs.Boxes.{boxAt, Upright, reach, Boxed, Puts}
 use Rattle.nearest.specs.Live.{Packed}
 use Rattle.nearest.specs.Rows.{rowAt, Roomy, Right}
 
@@ -14,6 +14,7 @@ use Rattle.nearest.specs.Rows.{rowAt, Roomy, Right}
 pub record Open (n i : ℕ) (bs live rows js : List ℕ) : Type 0 where
   pub packed : Packed n i live
   pub right : Right bs live (n + i) (rowAt rows)
+  pub upright : Upright (n + i) bs
   pub turn : i + 1 < n
   pub few : n ≤ 512
   pub box-room : Boxed bs (n + i)

@@ -13,7 +13,7 @@ use Rattle.nearest.specs.declared.pair.Near.{Near}
 use Rattle.nearest.specs.declared.pair.Pair.{Pair}
 use Rattle.nearest.specs.declared.best.Choice.{Choice}
 use Rattle.nearest.specs.Nearest.{pair}
-use Rattle.nearest.specs.Boxes.{boxAt, reach}
+use Rattle.nearest.specs.Boxes.{boxAt, Upright, reach}
 use Rattle.nearest.specs.Live.{Rising, Below}
 
 -- the box of a live node, a partner among the later ones, and how far that one is
@@ -133,6 +133,7 @@ pub record Caching (bs live rows : List ℕ) : Type 0 where
   pub right : Right bs live top (rowAt rows)
   pub rising : Rising live
   pub low : Below top live
+  pub upright : Upright top bs
   pub few-nodes : top ≤ 1023
   pub two : 2 ≤ length live
   pub few : length live ≤ 512

@@ -2,6 +2,8 @@
 ghost use Prim.Native.Nat.{_*_, _≤_, _<_};
 ghost use lib.ListN.{length};
 ghost use Rattle.lists.specs.Grow.{upTo};
+ghost use Rattle.plane.specs.Boxes.{InOrder};
+ghost use Rattle.nearest.specs.Boxes.{Upright};
 ghost use Rattle.nearest.specs.Rows.{rowAt, Roomy, Right, Closed, Entered};
 use crate::best::Choice;
 use crate::live;
@@ -26,7 +28,7 @@ pub fn close(live: &mut [usize], rows: &mut [u32], c: Choice, m: usize)
 
 // Node m with box b enters after k rows. Each is held against it; the last had no later node, so this one is its partner.
 pub fn enter(rows: &mut [u32], k: usize, b: Box, m: usize)
-    requires { ⌜ Roomy (now rows) × (k < 512) × (m < 1024) ⌝ }
+    requires { ⌜ Roomy (now rows) × (k < 512) × (m < 1024) × InOrder b ⌝ }
     ensures { λ _. ⌜ Entered k b m (now (rows .entry)) (now (rows .exit)) ⌝ }
 {
     if k == 0 {
@@ -42,7 +44,7 @@ pub fn enter(rows: &mut [u32], k: usize, b: Box, m: usize)
 
 // The rows of all sinks.
 pub fn begin(bs: &[u32], rows: &mut [u32], n: usize)
-    requires { ⌜ Roomy (now rows) × (n ≤ 512) × (4 * n ≤ length (now bs)) ⌝ }
+    requires { ⌜ Roomy (now rows) × (n ≤ 512) × (4 * n ≤ length (now bs)) × Upright n (now bs) ⌝ }
     ensures { λ _. ⌜ Right (now (bs .entry)) (upTo n) n (rowAt (now (rows .exit))) ⌝ }
 {
     let mut i = 0;

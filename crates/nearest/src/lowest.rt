@@ -1,7 +1,8 @@
 // The rows: the first whose partner is nearest, and the nearest of the live nodes after one.
 ghost use Prim.Native.Nat.{_+_, _≤_, _<_};
 ghost use lib.ListN.{length};
-ghost use Rattle.nearest.specs.Rows.{Roomy, SameRows, Least, FirstLeast, Lowest, NearestAfter};
+ghost use Rattle.plane.specs.Boxes.{InOrder};
+ghost use Rattle.nearest.specs.Rows.{rowAt, Roomy, SameRows, Least, FirstLeast, Lowest, NearestAfter};
 use crate::pair::Near;
 use crate::rows;
 
@@ -53,7 +54,7 @@ pub fn lowest(rows: &[u32], k: usize) -> usize
 
 // The first of the nearest of the live nodes after row a. How far each is stands beside its row; no row changes.
 pub fn partner(rows: &mut [u32], live: &[usize], a: usize) -> Near
-    requires { ⌜ Roomy (now rows) × (a + 1 < length (now live)) × (length (now live) ≤ 512) ⌝ }
+    requires { ⌜ Roomy (now rows) × (a + 1 < length (now live)) × (length (now live) ≤ 512) × InOrder (rowAt (now rows) a .box) ⌝ }
     ensures { λ r. ⌜ NearestAfter (now (rows .entry)) (now (live .entry)) a r × SameRows (now (rows .entry)) (now (rows .exit)) ⌝ }
 {
     let b = rows::box_in(rows, a);

@@ -2,6 +2,7 @@
 ghost use mathlib.Core.Path.{_≡_};
 ghost use Prim.Native.Nat.{_+_, _≤_, _<_};
 ghost use lib.ListN.{set};
+ghost use Rattle.plane.specs.Boxes.{InOrder};
 ghost use Rattle.nearest.specs.Rows.{rowAt, Roomy, span, given, held, Sets, Holds, Spans, NewBox, RowsUp};
 use crate::pair::Near;
 use plane::boxes;
@@ -21,17 +22,17 @@ pub fn box_in(rows: &[u32], t: usize) -> Box
     }
 }
 
-// The diameter of row t's union with a box.
+// The diameter of row t's union with a box. The box has its ends in order, so the union has.
 pub fn span(rows: &[u32], t: usize, b: Box) -> u32
-    requires { ⌜ Roomy (now rows) × (t < 512) ⌝ }
+    requires { ⌜ Roomy (now rows) × (t < 512) × InOrder b ⌝ }
     ensures { λ r. ⌜ r ≡ span (rowAt (now (rows .entry)) t) b ⌝ }
 {
-    boxes::diameter(boxes::hull(box_in(rows, t), b))
+    boxes::breadth(boxes::hull(box_in(rows, t), b))
 }
 
 // Row t, held against node m with box b. Both numbers are written in any case: so many rows at a time can be.
 fn hold_row(rows: &mut [u32], t: usize, b: Box, m: u32)
-    requires { ⌜ Roomy (now rows) × (t < 512) ⌝ }
+    requires { ⌜ Roomy (now rows) × (t < 512) × InOrder b ⌝ }
     ensures { λ _. ⌜ Sets t (held b m (rowAt (now (rows .entry)) t)) (now (rows .entry)) (now (rows .exit)) ⌝ }
 {
     let e = span(rows, t, b);
@@ -44,7 +45,7 @@ fn hold_row(rows: &mut [u32], t: usize, b: Box, m: u32)
 
 // The first k rows, held against node m with box b.
 pub fn hold(rows: &mut [u32], k: usize, b: Box, m: u32)
-    requires { ⌜ Roomy (now rows) × (k ≤ 512) ⌝ }
+    requires { ⌜ Roomy (now rows) × (k ≤ 512) × InOrder b ⌝ }
     ensures { λ _. ⌜ Holds k b m (now (rows .entry)) (now (rows .exit)) ⌝ }
 {
     let mut t = 0;
@@ -56,7 +57,7 @@ pub fn hold(rows: &mut [u32], k: usize, b: Box, m: u32)
 
 // The diameter of row t's union with a box, beside the row.
 fn put_span(rows: &mut [u32], t: usize, b: Box)
-    requires { ⌜ Roomy (now rows) × (t < 512) ⌝ }
+    requires { ⌜ Roomy (now rows) × (t < 512) × InOrder b ⌝ }
     ensures { λ _. ⌜ now (rows .exit) ≡ set (now (rows .entry)) (3072 + t) (span (rowAt (now (rows .entry)) t) b) ⌝ }
 {
     let e = span(rows, t, b);
@@ -65,7 +66,7 @@ fn put_span(rows: &mut [u32], t: usize, b: Box)
 
 // The diameters of the unions with a box, beside each row of a run. They are written first and looked at after: so many rows at a time can be.
 pub fn spans(rows: &mut [u32], from: usize, to: usize, b: Box)
-    requires { ⌜ Roomy (now rows) × (from ≤ to) × (to ≤ 512) ⌝ }
+    requires { ⌜ Roomy (now rows) × (from ≤ to) × (to ≤ 512) × InOrder b ⌝ }
     ensures { λ _. ⌜ Spans from to b (now (rows .entry)) (now (rows .exit)) ⌝ }
 {
     let mut t = from;

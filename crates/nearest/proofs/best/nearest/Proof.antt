@@ -6,7 +6,7 @@ use lib.ListN.{length}
 use Rattle.nearest.specs.Live.{Below}
 use Rattle.nearest.specs.Rows.{Row, rowAt, given, Right, Chooses}
 use Rattle.nearest.proofs.Members.{all-at}
-use Rattle.nearest.proofs.Picking.{right-chosen, chosen-up, right-mend, missing, hit-at}
+use Rattle.nearest.proofs.Picking.{row-in-order, right-chosen, chosen-up, right-mend, missing, hit-at}
 use Rattle.nearest.proofs.Ending.{gone, gone-less}
 use Rattle.nearest.proofs.best.nearest.Statement.{statement}
 use Rattle.nearest.proofs.best.nearest.Tie as tie
@@ -27,7 +27,7 @@ partner-requires : tie.Need-partner-requires Inv-loop μ-loop
 partner-requires c κs =
     let o = c .before .before .before .before .before .before .before .before .before .pre in
     let v = c .before .before .before .loop .inv in
-    (omega (arith, o .roomy, v .0), omega (arith, v .2 .lowest .one), o .few)
+    (omega (arith, o .roomy, v .0), omega (arith, v .2 .lowest .one), o .few, row-in-order (c .before .before .before .loop .c .row) (o .upright) (o .low) (v .1 (o .top) (o .low) (o .right)) (omega (arith, v .2 .lowest .one)))
 
 give-requires : tie.Need-give-requires Inv-loop μ-loop
 give-requires c κs =

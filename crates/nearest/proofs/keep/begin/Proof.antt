@@ -1,9 +1,10 @@
-use mathlib.Core.Path.{_≡_, refl, _∙_}
+use mathlib.Core.Path.{_≡_, refl, sym, subst, _∙_}
 use Prim.Native.Nat.{_-_, _≤_}
 use native.Mathlib.Omega.{arith}
 use denote.Ref.{now}
 use lib.ListN.{length}
 use Rattle.lists.specs.Grow.{upTo}
+use Rattle.plane.specs.Boxes.{InOrder}
 use Rattle.nearest.specs.Rows.{rowAt, Right}
 use Rattle.nearest.proofs.Entering.{right-none}
 use Rattle.nearest.proofs.Going.{right-sink}
@@ -23,7 +24,7 @@ box-at-requires : tie.Need-box-at-requires Inv-loop μ-loop
 box-at-requires c κs = omega (arith, c .before .loop-test .taken, c .before .before .before .before .before .pre .2)
 
 enter-requires : tie.Need-enter-requires Inv-loop μ-loop
-enter-requires c κs = (omega (arith, c .before .before .before .loop .inv .1, c .before .before .before .before .before .before .pre .0), omega (arith, c .before .before .loop-test .taken, c .before .before .before .before .before .before .pre .1), omega (arith, c .before .before .loop-test .taken, c .before .before .before .before .before .before .pre .1))
+enter-requires c κs = (omega (arith, c .before .before .before .loop .inv .1, c .before .before .before .before .before .before .pre .0), omega (arith, c .before .before .loop-test .taken, c .before .before .before .before .before .before .pre .1), omega (arith, c .before .before .loop-test .taken, c .before .before .before .before .before .before .pre .1), subst InOrder (sym (c .box-at .ensures)) (c .before .before .before .before .before .before .pre .3 (c .before .before .before .loop .i) (c .before .before .loop-test .taken)))
 
 add-i : tie.Need-add-i Inv-loop μ-loop
 add-i c = omega (arith, c .before .before .before .before .before .loop-test .taken, c .before .before .before .before .before .before .before .before .before .pre .1)

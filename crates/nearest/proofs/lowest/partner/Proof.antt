@@ -1,5 +1,8 @@
+use mathlib.Core.Path.{sym, subst}
+use native.Mathlib.Omega.{arith}
 use borrow.Author.Needs.{needs}
 use denote.Ref.{now}
+use Rattle.plane.specs.Boxes.{InOrder}
 use Rattle.nearest.proofs.Leasts.{nearest-first}
 use Rattle.nearest.proofs.lowest.partner.Statement.{statement}
 use Rattle.nearest.proofs.lowest.partner.Tie as tie
@@ -11,7 +14,7 @@ add-from : tie.Need-add-from
 add-from c = search needs
 
 spans-requires : tie.Need-spans-requires
-spans-requires c κs = search needs
+spans-requires c κs = (c .before .before .before .before .before .pre .0, omega (arith, c .before .before .before .before .before .pre .1), c .before .before .before .before .before .pre .2, subst InOrder (sym (c .before .box-in .ensures)) (c .before .before .before .before .before .pre .3))
 
 add-first-least : tie.Need-add-first-least
 add-first-least c = search needs

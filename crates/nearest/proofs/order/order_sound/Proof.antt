@@ -7,6 +7,7 @@ use borrow.Author.Needs.{needs}
 use lib.ListN.{length, take, replicate}
 use lib.Seq.{length-take-le, length-front}
 use Rattle.plane.specs.Sinks.{sinksAt}
+use Rattle.nearest.proofs.Boxing.{covers-in-order}
 use Rattle.nearest.proofs.Going.{Going, going-begin, going-turn, going-open, going-end}
 use Rattle.nearest.proofs.order.order_sound.Statement.{statement}
 use Rattle.nearest.proofs.order.order_sound.Tie as tie
@@ -42,7 +43,7 @@ slice-aggregate-begin-3 : tie.Need-slice-aggregate-begin-3 Inv-loop μ-loop
 slice-aggregate-begin-3 c = refl
 
 begin-requires-2 : tie.Need-begin-requires-2 Inv-loop μ-loop
-begin-requires-2 c κs = (let o = c .before .before .before .before .before .before .before .before .before .pre in (omega arith, o .few, omega (arith, c .before .before .before .before .before .bs2 .given, o .few)))
+begin-requires-2 c κs = (let o = c .before .before .before .before .before .before .before .before .before .pre in (omega arith, o .few, omega (arith, c .before .before .before .before .before .bs2 .given, o .few), λ k l. covers-in-order (c .before .before .before .before .before .before .put-sinks .ensures .covers k l)))
 
 loop-holds : tie.Need-loop-holds Inv-loop μ-loop
 loop-holds c =

@@ -1,7 +1,7 @@
 use mathlib.Core.Path.{_∙_}
 use native.Mathlib.Omega.{arith}
 use borrow.Author.Needs.{needs}
-use Rattle.nearest.proofs.Going.{open-caching, open-low, round-of}
+use Rattle.nearest.proofs.Going.{open-caching, open-low, open-upright, round-of}
 use Rattle.nearest.proofs.order.round.Statement.{statement}
 use Rattle.nearest.proofs.order.round.Tie as tie
 
@@ -32,7 +32,7 @@ box-at-requires c κs = search needs
 enter-requires : tie.Need-enter-requires
 enter-requires c κs =
     let o = c .before .before .before .before .before .before .before .before .before .before .before .before .before .before .before .before .before .before .before .before .before .before .before .before .before .before .pre in
-    (omega (arith, o .roomy, c .before .before .before .before .before .before .before .before .before .before .before .before .before .before .before .before .before .rows .given, c .before .before .before .before .rows2 .given), omega (arith, o .packed .count, o .few, o .turn, c .before .before .before .before .before .before .live .given), omega (arith, o .few, o .turn))
+    (omega (arith, o .roomy, c .before .before .before .before .before .before .before .before .before .before .before .before .before .before .before .before .before .rows .given, c .before .before .before .before .rows2 .given), omega (arith, o .packed .count, o .few, o .turn, c .before .before .before .before .before .before .live .given), omega (arith, o .few, o .turn), open-upright (c .before .before .before .before .before .before .before .before .before .before .before .before .before .before .pair-at .result) (c .box-at .result) o (c .before .before .before .before .before .before .before .before .before .before .before .before .before .before .pair-at .ensures ∙ c .before .before .before .before .before .before .before .before .before .before .before .before .before .before .before .before .before .before .nearest .ensures .0) (c .before .before .before .before .before .before .before .before .before .before .before .before .put-hull .ensures) (c .box-at .ensures))
 
 write-pair-requires : tie.Need-write-pair-requires
 write-pair-requires c κs =

@@ -16,7 +16,7 @@ loop-holds : tie.Need-loop-holds Inv-loop μ-loop
 loop-holds c = (omega arith, holding-begin (now (c .before .args .rows)))
 
 hold-row-requires : tie.Need-hold-row-requires Inv-loop μ-loop
-hold-row-requires c κs = (omega (arith, c .before .before .before .before .pre .0, c .before .before .loop .inv .1 .size), omega (arith, c .before .before .before .before .pre .1, c .before .loop-test .taken))
+hold-row-requires c κs = (omega (arith, c .before .before .before .before .pre .0, c .before .before .loop .inv .1 .size), omega (arith, c .before .before .before .before .pre .1, c .before .loop-test .taken), c .before .before .before .before .pre .2)
 
 add-t : tie.Need-add-t Inv-loop μ-loop
 add-t c = omega arith

@@ -18,7 +18,7 @@ loop-holds : tie.Need-loop-holds Inv-loop μ-loop
 loop-holds c = (c .before .pre .1, refl, spans-begin (now (c .before .args .rows)) (c .before .args .from))
 
 put-span-requires : tie.Need-put-span-requires Inv-loop μ-loop
-put-span-requires c κs = (omega (arith, c .before .before .before .before .pre .0, c .before .before .loop .inv .1), omega (arith, c .before .before .before .before .pre .2, c .before .loop-test .taken))
+put-span-requires c κs = (omega (arith, c .before .before .before .before .pre .0, c .before .before .loop .inv .1), omega (arith, c .before .before .before .before .pre .2, c .before .loop-test .taken), c .before .before .before .before .pre .3)
 
 add-t : tie.Need-add-t Inv-loop μ-loop
 add-t c = omega arith
