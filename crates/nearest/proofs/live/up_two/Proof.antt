@@ -1,5 +1,5 @@
 use mathlib.Core.Path.{_≡_, refl, _∙_}
-use Prim.Native.Nat.{_+_, _-_, _≤_}
+use Prim.Native.Nat.{_-_, _≤_}
 use native.Mathlib.Omega.{arith}
 use denote.Ref.{now}
 use lib.ListN.{length, getD, length-set}
@@ -43,9 +43,8 @@ loop-again : tie.Need-loop-again Inv-loop μ-loop
 loop-again c =
     let l = c .before .before .loop in
     let v = l .inv in
-    let later = getD (l .live) (l .t + 2) 0 in
     let h = c .before .loop-test .taken in
-    (omega (arith, v .0), omega arith, length-set (l .live) (l .t) later ∙ v .2, shifts-turn (v .3) (v .0) (omega (arith, h, c .before .before .before .pre .1)) (getD-set-same (l .live) (l .t) later 0 (omega (arith, h, v .2, c .before .before .before .pre .1))) (λ s g n. getD-set-other (l .live) (l .t) s later 0 n))
+    (omega (arith, v .0), omega arith, length-set (l .live) (l .t) _ ∙ v .2, shifts-turn (v .3) (v .0) (omega (arith, h, c .before .before .before .pre .1)) (getD-set-same (l .live) (l .t) _ 0 (omega (arith, h, v .2, c .before .before .before .pre .1))) (λ s g n. getD-set-other (l .live) (l .t) s _ 0 n))
 
 same-length : tie.Need-same-length Inv-loop μ-loop
 same-length c = c .before .loop .inv .2
