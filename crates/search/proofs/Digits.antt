@@ -91,11 +91,11 @@ gap =
 
 -- ---- the lowest sink, of a number of d digits
 
-pub tz-even : (d s : ℕ) → s % 2 ≡ 0 → trailingZeros (suc d) s ≡ suc (trailingZeros d (s / 2))
+tz-even : (d s : ℕ) → s % 2 ≡ 0 → trailingZeros (suc d) s ≡ suc (trailingZeros d (s / 2))
 unfolding trailingZeros
 tz-even d s e = ap (λ (b : ℕ). under b (trailingZeros d (s / 2))) e
 
-pub tz-odd : (d s : ℕ) → s % 2 ≡ 1 → trailingZeros (suc d) s ≡ 0
+tz-odd : (d s : ℕ) → s % 2 ≡ 1 → trailingZeros (suc d) s ≡ 0
 unfolding trailingZeros
 tz-odd d s e = ap (λ (b : ℕ). under b (trailingZeros d (s / 2))) e
 

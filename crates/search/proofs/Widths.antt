@@ -1,86 +1,155 @@
--- The diameters of all subsets, each from those of smaller ones.
-use mathlib.Core.Path.{_≡_, sym, ap, ap₂, _∙_}
+-- The diameters of all subsets by doubling: those with highest sink j, from those of the sinks before it.
+use mathlib.Core.Path.{_≡_, refl, sym, ap, ap₂, subst, _∙_}
 use mathlib.Core.Logic.{_≢_, _⊎_, inl, inr}
-use mathlib.Core.List.{List, []}
+use mathlib.Core.Bool.{Bool, true, false}
+use mathlib.Core.List.{List, [], _∷_, _++_}
 use Prim.Native.Nat.{ℕ, zero, suc, _+_, _-_, _*_, _/_, _%_, _^_, _≤_, _<_, max}
+use native.Mathlib.Nat.{div-one, div-div-eq-div-mul, pow-suc, pow-succ'}
 use native.Mathlib.Omega.{arith}
 use native.Mathlib.Decide.{ℕ-discrete}
+use lib.Dec.{eqb}
 use lib.ListN.{length, getD, set}
 use lib.Seq.{getD-set-same, getD-set-other}
-use lib.Count.{trailingZeros}
-use Rattle.search.specs.Square.{Widths, entry, farthestOf, held, widest}
-use Rattle.search.specs.Subsets.{lowest, sinksIn}
-use Rattle.search.specs.Sums.{beyond}
-use Rattle.search.proofs.Digits.{low, low-even, low-le, low-odd, low-pos, parity, self-lt, tz-even, tz-odd}
-use Rattle.search.proofs.Lowest.{beyond-lt, farthest-cons, farthest-zero, lowest-is, widest-cons, widest-zero}
+use lib.Pow.{pow-mono}
+use Rattle.lists.proofs.Tests.{or-lt}
+use Rattle.search.specs.Square.{Changed, Widths, entry, farthestOf, farthestTo, held, reach, widest, widestOf}
+use Rattle.search.specs.Subsets.{holds, keep, keepIf, rising, sinksIn}
 
--- without its second sink, a subset has the same lowest
-same-low : (d s : ℕ) → 0 < s → s < 2 ^ d → 0 < s - low d s → trailingZeros d (s - low d (s - low d s)) ≡ trailingZeros d s
-same-low zero s h k t = absurd (omega arith)
-same-low (suc d) s h k t = go (same-low d (s / 2)) (parity s)
+-- ---- a subset's sinks, the highest last
+
+-- the sinks of s by its digits: the places of the ones among the k lowest, the lowest of which is place i
+unfoldable sinksFrom : ℕ → ℕ → ℕ → List ℕ
+sinksFrom zero i s = []
+sinksFrom (suc k) i s = keepIf (eqb (s % 2) 1) i (sinksFrom k (suc i) (s / 2))
+
+from-zero : (d i : ℕ) → sinksFrom d i 0 ≡ []
+unfolding sinksFrom
+from-zero zero i = refl
+from-zero (suc d) i = from-zero d (suc i)
+
+from-keep : (d i s : ℕ) → sinksFrom d i (s / 2 ^ i) ≡ keep (holds s) (rising d i)
+unfolding sinksFrom keep rising
+from-keep zero i s = refl
+from-keep (suc d) i s =
+    ap (keepIf (eqb (s / 2 ^ i % 2) 1) i)
+    (ap (sinksFrom d (suc i)) (div-div-eq-div-mul s (2 ^ i) 2 ∙ ap (λ (x : ℕ). s / x) (sym (pow-suc 2 i))) ∙ from-keep d (suc i) s)
+
+sinks-are : (s : ℕ) → sinksIn 32 s ≡ sinksFrom 32 0 s
+unfolding sinksIn
+sinks-are s = sym (ap (sinksFrom 32 0) (sym (div-one s)) ∙ from-keep 32 0 s)
+
+sinks-zero : sinksIn 32 0 ≡ []
+sinks-zero = sinks-are 0 ∙ from-zero 32 0
+
+keep-onto : (b : Bool) (x : ℕ) (l t : List ℕ) → keepIf b x (l ++ t) ≡ keepIf b x l ++ t
+keep-onto true x l t = refl
+keep-onto false x l t = refl
+
+from-last : (d j i r : ℕ) → j < d → r < 2 ^ j → sinksFrom d i (2 ^ j + r) ≡ sinksFrom d i r ++ ((i + j) ∷ [])
+unfolding sinksFrom
+from-last zero j i r h k = absurd (omega arith)
+from-last (suc d) zero i r h k =
+    let e : r ≡ 0 = omega arith in
+    let f : i ≡ i + 0 = omega arith in
+    rw (e, from-zero d (suc i)) (ap (λ (x : ℕ). x ∷ []) f)
+from-last (suc d) (suc j) i r h k =
+    let p : 2 ^ suc j ≡ 2 ^ j * 2 = pow-suc 2 j in
+    let e : (2 ^ suc j + r) % 2 ≡ r % 2 = omega arith in
+    let f : (2 ^ suc j + r) / 2 ≡ 2 ^ j + r / 2 = omega arith in
+    let g : suc i + j ≡ i + suc j = omega arith in
+    ap₂ (λ (x y : ℕ). keepIf (eqb x 1) i (sinksFrom d (suc i) y)) e f
+    ∙ ap (keepIf (eqb (r % 2) 1) i) (from-last d j (suc i) (r / 2) (omega arith) (omega arith) ∙ ap (λ (x : ℕ). sinksFrom d (suc i) (r / 2) ++ (x ∷ [])) g)
+    ∙ keep-onto (eqb (r % 2) 1) i (sinksFrom d (suc i) (r / 2)) ((i + suc j) ∷ [])
+
+sinks-last : (j r : ℕ) → j < 32 → r < 2 ^ j → sinksIn 32 (2 ^ j + r) ≡ sinksIn 32 r ++ (j ∷ [])
+sinks-last j r h k =
+    let e : 0 + j ≡ j = omega arith in
+    sinks-are (2 ^ j + r) ∙ from-last 32 j 0 r h k ∙ ap₂ (λ (l : List ℕ) (x : ℕ). l ++ (x ∷ [])) (sym (sinks-are r)) e
+
+-- ---- what one more sink at the end makes of a list's distances
+farthest-last : (row l : List ℕ) (j : ℕ) → farthestOf row (l ++ (j ∷ [])) ≡ max (farthestOf row l) (getD row j 0)
+unfolding farthestOf
+farthest-last row [] j = omega arith
+farthest-last row (b ∷ l) j = omega (arith, farthest-last row l j)
+
+module _ (q : List (List ℕ)) where
+  to-last : (j : ℕ) (l : List ℕ) (i : ℕ) → farthestTo q j (l ++ (i ∷ [])) ≡ max (farthestTo q j l) (entry q i j)
+  unfolding farthestTo
+  to-last j [] i = omega arith
+  to-last j (a ∷ l) i = omega (arith, to-last j l i)
+
+  widest-last : (l : List ℕ) (j : ℕ) → widestOf q (l ++ (j ∷ [])) ≡ max (widestOf q l) (farthestTo q j l)
+  unfolding widestOf farthestOf farthestTo
+  widest-last [] j = omega arith
+  widest-last (a ∷ l) j = omega (arith, farthest-last (getD q a []) l j, widest-last l j)
+
+  reach-zero : (j : ℕ) → reach q j 0 ≡ 0
+  unfolding reach farthestTo
+  reach-zero j = ap (farthestTo q j) sinks-zero
+
+  reach-more : (j i r : ℕ) → i < 32 → r < 2 ^ i → reach q j (2 ^ i + r) ≡ max (reach q j r) (entry q i j)
+  unfolding reach
+  reach-more j i r h k = ap (farthestTo q j) (sinks-last i r h k) ∙ to-last j (sinksIn 32 r) i
+
+  widest-zero : widest q 0 ≡ 0
+  unfolding widest widestOf
+  widest-zero = ap (widestOf q) sinks-zero
+
+  widest-more : (j r : ℕ) → j < 32 → r < 2 ^ j → widest q (2 ^ j + r) ≡ max (widest q r) (reach q j r)
+  unfolding widest reach
+  widest-more j r h k = ap (widestOf q) (sinks-last j r h k) ∙ widest-last (sinksIn 32 r) j
+
+-- ---- changed entries
+pub changed-none : {at : ℕ} {f : ℕ → ℕ} {ds : List ℕ} → Changed at 0 f ds ds
+changed-none = record { here = λ r h. absurd (omega arith); before = λ m h. refl; after = λ m h. refl }
+
+-- the next one
+pub changed-more : {at k : ℕ} {f : ℕ → ℕ} {a b : List ℕ} {v : ℕ} → Changed at k f a b → at + k < length b → v ≡ f k → Changed at (k + 1) f a (set b (at + k) v)
+changed-more {at} {k} {f} {a} {b} {v} c h u = record {
+  here = λ r l. new r l (ℕ-discrete r k);
+  before = λ m l. other m (omega arith) ∙ c .before m l;
+  after = λ m l. other m (omega arith) ∙ c .after m (omega arith);
+}
   where
-    go : (0 < s / 2 → s / 2 < 2 ^ d → 0 < s / 2 - low d (s / 2) → trailingZeros d (s / 2 - low d (s / 2 - low d (s / 2))) ≡ trailingZeros d (s / 2))
-        → (s % 2 ≡ 0) ⊎ (s % 2 ≡ 1) → trailingZeros (suc d) (s - low (suc d) (s - low (suc d) s)) ≡ trailingZeros (suc d) s
-    go ih (inl e) =
-        let e1 : low (suc d) s ≡ 2 * low d (s / 2) = low-even d s e in
-        let l1 : low d (s / 2) ≤ s / 2 = low-le d (s / 2) (omega arith) (omega arith) in
-        let e2 : (s - low (suc d) s) % 2 ≡ 0 = omega arith in
-        let e3 : (s - low (suc d) s) / 2 ≡ s / 2 - low d (s / 2) = omega arith in
-        let l2 : low d (s / 2 - low d (s / 2)) ≤ s / 2 - low d (s / 2) = low-le d (s / 2 - low d (s / 2)) (omega arith) (omega arith) in
-        let e4 : low (suc d) (s - low (suc d) s) ≡ 2 * low d (s / 2 - low d (s / 2)) = low-even d (s - low (suc d) s) e2 ∙ ap (λ (x : ℕ). 2 * low d x) e3 in
-        let e5 : (s - low (suc d) (s - low (suc d) s)) / 2 ≡ s / 2 - low d (s / 2 - low d (s / 2)) = omega (arith, e4, l2) in
-        tz-even d (s - low (suc d) (s - low (suc d) s)) (omega (arith, e4, l2))
-        ∙ ap suc (ap (trailingZeros d) e5 ∙ ih (omega arith) (omega arith) (omega arith))
-        ∙ sym (tz-even d s e)
-    go ih (inr o) =
-        let e1 : low (suc d) s ≡ 1 = low-odd d s o in
-        let e2 : (s - low (suc d) s) % 2 ≡ 0 = omega arith in
-        let e4 : low (suc d) (s - low (suc d) s) ≡ 2 * low d ((s - low (suc d) s) / 2) = low-even d (s - low (suc d) s) e2 in
-        let l2 : low d ((s - low (suc d) s) / 2) ≤ (s - low (suc d) s) / 2 = low-le d ((s - low (suc d) s) / 2) (omega arith) (omega arith) in
-        tz-odd d (s - low (suc d) (s - low (suc d) s)) (omega (arith, e4, l2)) ∙ sym (tz-odd d s o)
+    other : (m : ℕ) → m ≢ at + k → held (set b (at + k) v) m ≡ held b m
+    other m n = getD-set-other b (at + k) m v 0 n
 
-combine : (w f e g o u t : ℕ) → w ≡ max f t → f ≡ max e g → o ≡ max g u → u ≤ t → w ≡ max e (max t o)
-combine w f e g o u t a b c h = omega arith
+    new : (r : ℕ) → r < k + 1 → Dec (r ≡ k) → held (set b (at + k) v) (at + r) ≡ f r
+    new r l (yes e) = rw e (getD-set-same b (at + k) v 0 h ∙ u)
+    new r l (no d) = let n : r ≢ k = d in other (at + r) (λ e. n (omega arith)) ∙ c .here r (omega (arith, n))
 
-low-is : (s : ℕ) → 0 < s → 2 ^ lowest s ≤ s
-low-is s pos = low-le s s pos (self-lt s)
+pub changed-all : {at k n : ℕ} {f : ℕ → ℕ} {a b : List ℕ} → k ≡ n → Changed at k f a b → Changed at n f a b
+changed-all {at} {k} {n} {f} {a} {b} e c = subst (λ (x : ℕ). Changed at x f a b) e c
 
-beyond-fits : (s : ℕ) → s < 2 ^ 32 → 0 < s → beyond s < 2 ^ 32
-beyond-fits s small pos = omega (arith, beyond-lt s pos)
+-- no sinks
+pub reach-start : (q : List (List ℕ)) (j half : ℕ) (ds : List ℕ) → half < length ds → Changed half 1 (reach q j) ds (set ds half 0)
+reach-start q j half ds h =
+    let e : half + 0 ≡ half = omega arith in
+    subst (λ (x : ℕ). Changed half 1 (reach q j) ds (set ds x 0)) e (changed-more changed-none (omega arith) (sym (reach-zero q j)))
 
-module _ (s : ℕ) (small : s < 2 ^ 32) (pos : 0 < s) (more : 0 < beyond s) where
-  -- all but the second
-  abbrev other : ℕ
-  other = s - 2 ^ lowest (beyond s)
+pub double-is : (i step : ℕ) → step ≡ 2 ^ i → 2 * step ≡ 2 ^ (i + 1)
+double-is i step e = let f : suc i ≡ i + 1 = omega arith in ap (λ (x : ℕ). 2 * x) e ∙ sym (pow-succ' 2 i) ∙ ap (λ (x : ℕ). 2 ^ x) f
 
-  other-fits : (0 < other) × (other < 2 ^ 32)
-  other-fits = (omega (arith, low-is s pos, low-pos s s, low-is (beyond s) more), omega arith)
+-- there is room for one sink more
+pub double-fits : (i j : ℕ) → i < j → 2 * 2 ^ i ≤ 2 ^ j
+double-fits i j h = let m : 2 ^ suc i ≤ 2 ^ j = pow-mono h in omega (arith, m, pow-succ' 2 i)
 
-  other-low : lowest other ≡ lowest s
-  other-low =
-      let t = beyond-fits s small pos in
-      let e1 : low 32 s ≡ 2 ^ lowest s = ap (λ (x : ℕ). 2 ^ x) (lowest-is s pos small) in
-      let e2 : low 32 (s - low 32 s) ≡ 2 ^ lowest (beyond s) = ap (λ (x : ℕ). low 32 (s - x)) e1 ∙ ap (λ (x : ℕ). 2 ^ x) (lowest-is (beyond s) more t) in
-      sym (lowest-is other (other-fits .0) (other-fits .1))
-      ∙ ap (λ (x : ℕ). trailingZeros 32 (s - x)) (sym e2)
-      ∙ same-low 32 s pos small (omega (arith, e1, more))
-      ∙ lowest-is s pos small
-
-  -- the two lowest, all but the lowest, or all but the second
-  pub widest-more : (q : List (List ℕ)) → widest q s ≡ max (entry q (lowest s) (lowest (beyond s))) (max (widest q (beyond s)) (widest q other))
-  widest-more q =
-      let row : List ℕ = getD q (lowest s) [] in
-      let t = beyond-fits s small pos in
-      let e : other - 2 ^ lowest other ≡ beyond (beyond s) = ap (λ (x : ℕ). other - 2 ^ x) other-low ∙ omega (arith, low-is s pos, low-is (beyond s) more) in
-      let c : widest q other ≡ max (farthestOf row (sinksIn 32 (beyond (beyond s)))) (widest q (beyond (beyond s))) =
-      widest-cons q other (other-fits .0) (other-fits .1) ∙ ap₂ (λ (x y : ℕ). max (farthestOf (getD q x []) (sinksIn 32 y)) (widest q y)) other-low e in
-      combine (widest q s) (farthestOf row (sinksIn 32 (beyond s))) (entry q (lowest s) (lowest (beyond s))) (farthestOf row (sinksIn 32 (beyond (beyond s)))) (widest q other) (widest q (beyond (beyond s))) (widest q (beyond s))
-      (widest-cons q s pos small) (farthest-cons row (beyond s) more t) c (omega (arith, widest-cons q (beyond s) more t))
-
-pub widest-single : (q : List (List ℕ)) (s : ℕ) → s < 2 ^ 32 → 0 < s → beyond s ≡ 0 → widest q s ≡ 0
-widest-single q s small pos e =
-    widest-cons q s pos small ∙ ap (λ (x : ℕ). max (farthestOf (getD q (lowest s) []) (sinksIn 32 x)) (widest q x)) e
-    ∙ omega (arith, farthest-zero (getD q (lowest s) []), widest-zero q)
+-- the distances of one sink more, from those of the sinks before it
+pub reach-doubled : {half step : ℕ} {a b c : List ℕ} (q : List (List ℕ)) (j i : ℕ) → i < 32 → step ≡ 2 ^ i → Changed half step (reach q j) a b
+    → Changed (half + step) step (λ (r : ℕ). max (held b (half + r)) (entry q i j)) b c → Changed half (2 * step) (reach q j) a c
+reach-doubled {half} {step} {a} {b} {c} q j i few size done more = record {
+  here = λ r l. new r l (or-lt r step);
+  before = λ m l. more .before m (omega arith) ∙ done .before m l;
+  after = λ m l. more .after m (omega arith) ∙ done .after m (omega arith);
+}
+  where
+    new : (r : ℕ) → r < 2 * step → (r < step) ⊎ (step ≤ r) → held c (half + r) ≡ reach q j r
+    new r l (inl h) = more .before (half + r) (omega arith) ∙ done .here r h
+    new r l (inr h) =
+        let t : ℕ = r - step in
+        let e : half + r ≡ half + step + t = omega arith in
+        let f : 2 ^ i + t ≡ r = omega arith in
+        ap (held c) e ∙ more .here t (omega arith) ∙ ap (λ (x : ℕ). max x (entry q i j)) (done .here t (omega arith)) ∙ sym (reach-more q j i t few (omega arith)) ∙ ap (reach q j) f
 
 -- ---- the list of the diameters
 pub widths-start : (q : List (List ℕ)) (ds : List ℕ) → 0 < length ds → Widths q 1 (set ds 0 0)
@@ -88,17 +157,17 @@ widths-start q ds h m k =
     let e : m ≡ 0 = omega arith in
     rw e (getD-set-same ds 0 0 0 h ∙ sym (widest-zero q))
 
-pub widths-more : (q : List (List ℕ)) (ds : List ℕ) (s v : ℕ) → Widths q s ds → s < length ds → v ≡ widest q s → Widths q (s + 1) (set ds s v)
-widths-more q ds s v w h e m k = go (ℕ-discrete m s)
+-- the subsets with sink j, from those without
+pub widths-doubled : {half : ℕ} {b c : List ℕ} (q : List (List ℕ)) (j : ℕ) (a : List ℕ) → j < 32 → half ≡ 2 ^ j → Widths q half a → Changed half half (reach q j) a b
+    → Changed half half (λ (r : ℕ). max (held b (half + r)) (held b r)) b c → Widths q (2 * half) c
+widths-doubled {half} {b} {c} q j a few size w far wide m k = go (or-lt m half)
   where
-    go : Dec (m ≡ s) → held (set ds s v) m ≡ widest q m
-    go (yes f) = rw f (getD-set-same ds s v 0 h ∙ e)
-    go (no f) = let n : m ≢ s = f in getD-set-other ds s m v 0 n ∙ w m (omega (arith, n))
-
--- what the code works out for s
-pub spread-is : (q : List (List ℕ)) (ds : List ℕ) (s rest a b v : ℕ) → s < 2 ^ 32 → 0 < s → Widths q s ds → rest ≡ beyond s → 0 < rest → a ≡ lowest s → b ≡ lowest rest
-    → v ≡ max (entry q a b) (max (getD ds rest 0) (getD ds (s - 2 ^ lowest rest) 0)) → v ≡ widest q s
-spread-is q ds s rest a b v small pos w er more ea eb ev =
-    let m : 0 < beyond s = omega arith in
-    let e : widest q s ≡ max (entry q a b) (max (widest q rest) (widest q (s - 2 ^ lowest rest))) = rw (ea, eb, er) (widest-more s small pos m q) in
-    ev ∙ ap₂ (λ (x y : ℕ). max (entry q a b) (max x y)) (w rest (omega (arith, er, beyond-lt s pos))) (w (s - 2 ^ lowest rest) (omega (arith, low-pos rest rest))) ∙ sym e
+    go : (m < half) ⊎ (half ≤ m) → held c m ≡ widest q m
+    go (inl h) = wide .before m h ∙ far .before m h ∙ w m h
+    go (inr h) =
+        let r : ℕ = m - half in
+        let l : r < half = omega arith in
+        let e : m ≡ half + r = omega arith in
+        let f : 2 ^ j + r ≡ m = omega arith in
+        let x : max (reach q j r) (widest q r) ≡ max (widest q r) (reach q j r) = omega arith in
+        ap (held c) e ∙ wide .here r l ∙ ap₂ max (far .here r l) (far .before r l ∙ w r l) ∙ x ∙ sym (widest-more q j r few (omega arith)) ∙ ap (widest q) f

@@ -1,7 +1,7 @@
 -- The square of distances, by which the code finds a subset's diameter.
 use mathlib.Core.Path.{_≡_}
 use mathlib.Core.List.{List, [], _∷_}
-use Prim.Native.Nat.{ℕ, _≤_, _<_, max}
+use Prim.Native.Nat.{ℕ, _+_, _≤_, _<_, max}
 use lib.ListN.{getD}
 use Rattle.zero_skew.specs.Plane.{Sinks, dist}
 use Rattle.search.specs.Subsets.{sinksIn}
@@ -30,6 +30,11 @@ unfoldable pub widestOf : List (List ℕ) → List ℕ → ℕ
 widestOf q [] = 0
 widestOf q (a ∷ l) = max (farthestOf (getD q a []) l) (widestOf q l)
 
+-- for the code alone: the greatest distance of one of l to sink j, from a column of the square
+unfoldable pub farthestTo : List (List ℕ) → ℕ → List ℕ → ℕ
+farthestTo q j [] = 0
+farthestTo q j (i ∷ l) = max (entry q i j) (farthestTo q j l)
+
 -- for the code alone: the diameters that a list holds
 abbrev pub held : List ℕ → ℕ → ℕ
 held ds m = getD ds m 0
@@ -37,6 +42,16 @@ held ds m = getD ds m 0
 -- for the code alone: the greatest distance of two sinks of a subset
 unfoldable pub widest : List (List ℕ) → ℕ → ℕ
 widest q m = widestOf q (sinksIn 32 m)
+
+-- for the code alone: the greatest distance of a sink of a subset to sink j
+unfoldable pub reach : List (List ℕ) → ℕ → ℕ → ℕ
+reach q j m = farthestTo q j (sinksIn 32 m)
+
+-- for the code alone: k entries from a place on are changed to what f says, and no other
+pub record Changed (at k : ℕ) (f : ℕ → ℕ) (ds ds′ : List ℕ) : Type 0 where
+  pub here : (r : ℕ) → r < k → held ds′ (at + r) ≡ f r
+  pub before : (m : ℕ) → m < at → held ds′ m ≡ held ds m
+  pub after : (m : ℕ) → at + k ≤ m → held ds′ m ≡ held ds m
 
 -- for the code alone: the first k of ds are the greatest distances in the subsets below k
 abbrev pub Widths : List (List ℕ) → ℕ → List ℕ → Type 0

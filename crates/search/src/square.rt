@@ -1,11 +1,10 @@
 // Distances between sinks, in a square of twelve rows by twelve, and the diameters of all subsets from them.
 ghost use mathlib.Core.Path.{_≡_};
-ghost use Prim.Native.Nat.{_<_, _≤_, _^_, _-_, max};
-ghost use lib.ListN.{length, getD};
+ghost use Prim.Native.Nat.{ℕ, _<_, _≤_, _+_, _^_, max};
+ghost use lib.ListN.{length};
 ghost use Rattle.zero_skew.specs.Plane.{dist};
 ghost use Rattle.plane.specs.Sinks.{sinksAt, Ranged};
-ghost use Rattle.search.specs.Subsets.{lowest};
-ghost use Rattle.search.specs.Square.{Square, RowOf, Widths, held};
+ghost use Rattle.search.specs.Square.{Square, RowOf, Widths, Changed, held, reach};
 use crate::subset;
 use plane::bounds;
 use plane::boxes;
@@ -62,35 +61,59 @@ pub fn diameter(ds: &[u32], s: u32) -> u32
     ds[subset::place(s)]
 }
 
-// The diameter of a subset of two or more, where its two lowest sinks are `near` apart: the greatest of that, of the diameter of all but the lowest, and of that of all but the second.
-fn spread(near: u32, ds: &[u32], s: u32, rest: u32) -> u32
-    requires { ⌜ (0 < rest) × (rest ≤ s) × (s < length (now ds)) ⌝ }
-    ensures { λ r. ⌜ r ≡ max near (max (getD (now (ds .entry)) rest 0) (getD (now (ds .entry)) (s - 2 ^ lowest rest) 0)) ⌝ }
+// For every r below `step`, the entry at half + step + r is made the larger of that at half + r and w.
+// As in `widen`, no test stands around the store, and what is written is not read by a later turn: of such a loop the compiler takes many turns at once.
+fn stretch(ds: &mut [u32], half: usize, step: usize, w: u32)
+    requires { ⌜ half + step + step ≤ length (now ds) ⌝ }
+    ensures { λ _. ⌜ Changed (half + step) step (λ (r : ℕ). max (held (now (ds .entry)) (half + r)) w) (now (ds .entry)) (now (ds .exit)) ⌝ }
 {
-    let last = subset::beyond(rest);
-    larger(
-        near,
-        larger(diameter(ds, rest), diameter(ds, s - (rest - last))),
-    )
+    let mut r = 0;
+    while r < step {
+        ds[half + step + r] = larger(ds[half + r], w);
+        r += 1;
+    }
 }
 
-// The diameters of all subsets of n sinks, from the square.
+// For every subset r of the sinks before j, how far sink j is from the farthest of them, at half + r. The sinks are taken in one by one, and each doubles the subsets that are done.
+fn farthest(q: [[u32; 12]; 12], ds: &mut [u32], j: usize, half: usize)
+    requires { ⌜ (j < 12) × (half ≡ 2 ^ j) × (half + half ≤ length (now ds)) ⌝ }
+    ensures { λ _. ⌜ Changed half half (reach q j) (now (ds .entry)) (now (ds .exit)) ⌝ }
+{
+    let mut i = 0;
+    let mut step = 1;
+    ds[half] = 0;
+    while i < j {
+        stretch(ds, half, step, q[i][j]);
+        step = 2 * step;
+        i += 1;
+    }
+}
+
+// For every r below `half`, the entry at half + r is made the larger of itself and that at r.
+fn widen(ds: &mut [u32], half: usize)
+    requires { ⌜ half + half ≤ length (now ds) ⌝ }
+    ensures { λ _. ⌜ Changed half half (λ (r : ℕ). max (held (now (ds .entry)) (half + r)) (held (now (ds .entry)) r)) (now (ds .entry)) (now (ds .exit)) ⌝ }
+{
+    let mut r = 0;
+    while r < half {
+        ds[half + r] = larger(ds[half + r], ds[r]);
+        r += 1;
+    }
+}
+
+// The diameters of all subsets of n sinks, from the square. The subsets whose highest sink is j are half + r, for the subsets r of the sinks before it.
 pub fn diameters(q: [[u32; 12]; 12], ds: &mut [u32], n: u32)
     requires { ⌜ (n ≤ 12) × (2 ^ n ≤ length (now ds)) ⌝ }
     ensures { λ _. ⌜ Widths q (2 ^ n) (now (ds .exit)) ⌝ }
 {
-    let size = subset::subsets(n);
-    let mut s: u32 = 1;
+    let count = subset::place(n);
+    let mut j = 0;
+    let mut half = 1;
     ds[0] = 0;
-    while s != size {
-        let rest = subset::beyond(s);
-        let mut d: u32 = 0;
-        if rest != 0 {
-            let a = subset::first(s);
-            let b = subset::first(rest);
-            d = spread(q[a][b], ds, s, rest);
-        }
-        ds[subset::place(s)] = d;
-        s += 1;
+    while j < count {
+        farthest(q, ds, j, half);
+        widen(ds, half);
+        half = 2 * half;
+        j += 1;
     }
 }
