@@ -20,11 +20,11 @@ use Rattle.nearest.specs.Rows.{Row, skip, Right}
 use Rattle.nearest.proofs.Members.{all-at, all-in, not-of, rising-at}
 use Rattle.nearest.proofs.Packed.{two-left}
 use Rattle.nearest.proofs.Moving.{skip-before, skip-after, skip-under, skip-suc, skip-up}
-use Rattle.nearest.proofs.Entering.{Fits, fits-right, right-fits, fits-as}
+use Rattle.nearest.proofs.Entering.{Fits, fits-right, right-fits}
 
 -- ---- the rows that stay are right beside the nodes that stay
-pub right-close : {bs live live2 : List ℕ} {m : ℕ} {row row′ : ℕ → Row} (a b : ℕ) → Right bs live m row → length live2 + 2 ≡ length live → ((t : ℕ) → t < length live2 → getD live2 t 0 ≡ getD live (skip b (skip a t)) 0) → ((t : ℕ) → t < length live2 → row′ t ≡ row (skip b (skip a t))) → Right bs live2 m row′
-right-close {bs} {live} {live2} {m} {row} {row′} a b v e f g = fits-right (λ s h. fits-as (g s h) (moved s h))
+pub right-close : {bs live live2 : List ℕ} {m : ℕ} {row : ℕ → Row} (a b : ℕ) → Right bs live m row → length live2 + 2 ≡ length live → ((t : ℕ) → t < length live2 → getD live2 t 0 ≡ getD live (skip b (skip a t)) 0) → Right bs live2 m (λ t. row (skip b (skip a t)))
+right-close {bs} {live} {live2} {m} {row} a b v e f = fits-right moved
   where
     up : (s t : ℕ) → s < t → skip b (skip a s) < skip b (skip a t)
     up s t l = skip-up b (skip a s) (skip a t) (skip-up a s t l)

@@ -1,5 +1,5 @@
 -- What is kept beside each live node stays right where nothing changed, and where a node enters.
-use mathlib.Core.Path.{_≡_, sym, ap, ap₂, subst, _∙_}
+use mathlib.Core.Path.{_≡_, refl, sym, ap, ap₂, subst, _∙_}
 use mathlib.Core.Logic.{⊎-elim}
 use mathlib.Core.List.{List, [], _∷_, _++_}
 use Prim.Native.Nat.{ℕ, suc, _+_, _-_, _≤_, _<_}
@@ -12,7 +12,7 @@ use Rattle.plane.specs.declared.boxes.Box.{Box}
 use Rattle.plane.specs.Boxes.{hullOf, diamOf}
 use Rattle.nearest.specs.Boxes.{boxAt, reach}
 use Rattle.nearest.specs.Live.{Below}
-use Rattle.nearest.specs.Rows.{Row, rowAt, span, given, held, Sets, Holds, NewBox, Right, Entered}
+use Rattle.nearest.specs.Rows.{Row, rowAt, span, given, held, Sets, NewBox, Right, Seated, Entered}
 use Rattle.nearest.proofs.Members.{all-at}
 
 -- ---- one row at a time: r is right beside the live node at s
@@ -110,14 +110,14 @@ module _ (bs live : List ℕ) (m : ℕ) where
     last-fits : suc s ≡ length live → Fits bs (live ++ (m ∷ [])) (m + 1) s (given r m (span r b))
     last-fits e = given-fits (λ t g j. (let z : ⊥ = omega arith in absurd z))
 
-pub right-enter : {bs live : List ℕ} {m : ℕ} {row row′ : ℕ → Row} (b : Box) (k : ℕ) → b ≡ boxAt bs m → k ≡ length live → Right bs live m row → Below m live → ((t : ℕ) → t + 1 < k → row′ t ≡ held b m (row t)) → ((t : ℕ) → t + 1 ≡ k → row′ t ≡ given (row t) m (span (row t) b)) → row′ k .box ≡ b → Right bs (live ++ (m ∷ [])) (m + 1) row′
-right-enter {bs} {live} {m} {row} {row′} b k is e v low f g j = fits-right (λ s h. ⊎-elim (λ p. inside s p) (λ p. outside s h (omega arith)) (or-lt s (length live)))
+pub right-enter : {bs live : List ℕ} {m : ℕ} {row row′ : ℕ → Row} (b : Box) (k : ℕ) → b ≡ boxAt bs m → k ≡ length live → Right bs live m row → Below m live → Entered k b m row row′ → Right bs (live ++ (m ∷ [])) (m + 1) row′
+right-enter {bs} {live} {m} {row} {row′} b k is e v low w = fits-right (λ s h. ⊎-elim (λ p. inside s p) (λ p. outside s h (omega arith)) (or-lt s (length live)))
   where
     inside : (s : ℕ) → s < length live → Fits bs (live ++ (m ∷ [])) (m + 1) s (row′ s)
     inside s h =
         ⊎-elim
-        (λ p. fits-as (f s p) (held-fits bs live m b is low h (right-fits v s h) (omega arith)))
-        (λ p. (let q : s + 1 ≡ k = omega arith in fits-as (g s q) (last-fits bs live m b is low h (right-fits v s h) (omega arith))))
+        (λ p. fits-as (w .holds s p) (held-fits bs live m b is low h (right-fits v s h) (omega arith)))
+        (λ p. (let q : s + 1 ≡ k = omega arith in fits-as (w .gives s q) (last-fits bs live m b is low h (right-fits v s h) (omega arith))))
         (or-lt (s + 1) k)
 
     outside : (s : ℕ) → s < length (live ++ (m ∷ [])) → length live ≤ s → Fits bs (live ++ (m ∷ [])) (m + 1) s (row′ s)
@@ -125,23 +125,40 @@ right-enter {bs} {live} {m} {row} {row′} b k is e v low f g j = fits-right (λ
         let n = length-append live (m ∷ []) in
         let q : k ≡ s = omega arith in
         record {
-          box = ap (λ (t : ℕ). row′ t .box) (sym q) ∙ j ∙ is ∙ ap (boxAt bs) (sym (new-at bs live m s h l));
+          box = ap (λ (t : ℕ). row′ t .box) (sym q) ∙ w .puts ∙ is ∙ ap (boxAt bs) (sym (new-at bs live m s h l));
           near = λ t a c. (let z : ⊥ = omega arith in absurd z);
           first = λ t a c d. (let z : ⊥ = omega arith in absurd z);
           named = λ a. (let z : ⊥ = omega arith in absurd z);
         }
 
--- ---- how a node enters: the rows are held against it but the last, which has no other partner, and its own is put after them
-pub entered-first : {b : Box} {m k : ℕ} {rows rows′ : List ℕ} → k ≡ 0 → NewBox k b rows rows′ → Entered k b m rows rows′
-entered-first e w = record { holds = λ t h. (let z : ⊥ = omega arith in absurd z); gives = λ t h. (let z : ⊥ = omega arith in absurd z); puts = w .here }
+-- ---- how a node comes after others: its box is put, and the last before it has no other partner
+pub seated-first : {b : Box} {m k : ℕ} {rows rows′ : List ℕ} → k ≡ 0 → NewBox k b rows rows′ → Seated k b m rows rows′
+seated-first e p = record { same = λ t h. (let z : ⊥ = omega arith in absurd z); gives = λ t h. (let z : ⊥ = omega arith in absurd z); puts = p .here }
 
-pub entered-more : {b : Box} {m k w : ℕ} {rows rows1 rows2 rows3 : List ℕ} → 0 < k → k < 512 → Holds (k - 1) b m rows rows1 → w ≡ span (rowAt rows1 (k - 1)) b → Sets (k - 1) (given (rowAt rows1 (k - 1)) m w) rows1 rows2 → NewBox k b rows2 rows3 → Entered k b m rows rows3
-entered-more {b} {m} {k} {w} {rows} {rows1} {rows2} {rows3} h l f e g p =
+pub seated-more : {b : Box} {m k w : ℕ} {rows rows1 rows2 : List ℕ} → 0 < k → k < 512 → NewBox k b rows rows1 → w ≡ span (rowAt rows1 (k - 1)) b → Sets (k - 1) (given (rowAt rows1 (k - 1)) m w) rows1 rows2 → Seated k b m rows rows2
+seated-more {b} {m} {k} {w} {rows} {rows1} {rows2} h l p e g =
     record {
-      holds = λ t q. p .others t (omega arith) (λ z. omega arith) ∙ g .others t (omega arith) (λ z. omega arith) ∙ f .first t (omega arith);
+      same = λ t q. g .others t (omega arith) (λ z. omega arith) ∙ p .others t (omega arith) (λ z. omega arith);
       gives = λ t q.
           (let z : k - 1 ≡ t = omega arith in
-          let o = f .others (k - 1) (omega arith) (omega arith) in
-          rw z at (p .others (k - 1) (omega arith) (λ y. omega arith) ∙ g .here ∙ ap (λ (x : ℕ). given (rowAt rows1 (k - 1)) m x) e ∙ ap (λ (r : Row). given r m (span r b)) o));
-      puts = p .here;
+          let o = p .others (k - 1) (omega arith) (λ y. omega arith) in
+          rw z at (g .here ∙ ap (λ (x : ℕ). given (rowAt rows1 (k - 1)) m x) e ∙ ap (λ (r : Row). given r m (span r b)) o));
+      puts = ap (λ (r : Row). r .box) (g .others k l (λ z. omega arith)) ∙ p .here;
+    }
+
+-- ---- and it has entered, where they were held against it: that changed no box
+held-box : (b : Box) (m : ℕ) (r : Row) → held b m r .box ≡ r .box
+unfolding held
+held-box b m r = choice (λ (q : Row). q .box ≡ r .box) (ltb (span r b) (r .far)) (given r m (span r b)) r (λ p. refl) (λ p. refl)
+
+held-given : (b : Box) (m : ℕ) (r : Row) → given (held b m r) m (span (held b m r) b) ≡ given r m (span r b)
+unfolding span
+held-given b m r = ap (λ (o : Box). record { box = o; far = diamOf (hullOf o b); at = m }) (held-box b m r)
+
+pub entered : {b : Box} {m k : ℕ} {row : ℕ → Row} {rows rows′ : List ℕ} → ((t : ℕ) → t < k → rowAt rows t ≡ held b m (row t)) → Seated k b m rows rows′ → Entered k b m row (rowAt rows′)
+entered {b} {m} {k} {row} {rows} {rows′} f w =
+    record {
+      holds = λ t h. w .same t h ∙ f t (omega arith);
+      gives = λ t h. w .gives t h ∙ ap (λ (r : Row). given r m (span r b)) (f t (omega arith)) ∙ held-given b m (row t);
+      puts = w .puts;
     }

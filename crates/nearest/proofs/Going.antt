@@ -128,25 +128,24 @@ module _ {n i : ℕ} {bs live rows rows1 js : List ℕ} (c : Choice) (o : Open n
   stay : ((t : ℕ) → t < length (without (pairAt live c) live) → getD (without (pairAt live c) live) t 0 ≡ getD live (skip (c .with) (skip (c .row) t)) 0) × (length (without (pairAt live c) live) + 2 ≡ length live)
   stay = without-at (pairAt live c) (c .row) (c .with) (o .packed .rising) (k .up) (k .inside) refl refl
 
-  module _ {bs′ live′ rows2 : List ℕ} (d : Closed c (n + i) live live′ rows1 rows2) where
+  module _ {bs′ live′ rows2 : List ℕ} {b : Box} (is : b ≡ boxAt bs′ (n + i)) (d : Closed c b (n + i) live live′ rows1 rows2) where
     -- what is kept is right again
-    right-round : (b : Box) (rows3 : List ℕ) → Puts (n + i) (hullOf (boxAt bs (pairAt live c .low)) (boxAt bs (pairAt live c .high))) bs bs′ → b ≡ boxAt bs′ (n + i) → Entered (length live - 2) b (n + i) rows2 rows3 → Right bs′ (after (pairAt live c) (n + i) live) (n + i + 1) (rowAt rows3)
-    right-round b rows3 u is w =
-        let p = pairAt live c in
-        let low = o .packed .low in
-        let v : Right bs (without p live) (n + i) (rowAt rows2) = right-close (c .row) (c .with) (k .right (n + i) low (o .right)) (stay .1) (stay .0) (λ t h. d .moved t (omega (arith, stay .1))) in
-        right-enter b (length live - 2) is (omega (arith, stay .1)) (right-same v (all-without p low) (u .before)) (all-without p low) (w .holds) (w .gives) (w .puts)
+    right-round : Puts (n + i) (hullOf (boxAt bs (pairAt live c .low)) (boxAt bs (pairAt live c .high))) bs bs′ → Right bs′ (after (pairAt live c) (n + i) live) (n + i + 1) (rowAt rows2)
+    right-round u =
+        let low = all-without (pairAt live c) (o .packed .low) in
+        let v = right-close (c .row) (c .with) (k .right (n + i) (o .packed .low) (o .right)) (stay .1) (stay .0) in
+        right-enter b (length live - 2) is (omega (arith, stay .1)) (right-same v low (u .before)) low (d .enters)
 
-    pub round-of : (p : Pair) (b : Box) (rows3 : List ℕ) {js′ : List ℕ} → pairAt live c ≡ best (reach bs) live → p ≡ pairAt live c → length live′ ≡ length live → Puts (n + i) (hullOf (boxAt bs (p .low)) (boxAt bs (p .high))) bs bs′ → b ≡ boxAt bs′ (n + i) → Entered (length live - 2) b (n + i) rows2 rows3 → js′ ≡ set (set js (2 * i) (p .low)) (2 * i + 1) (p .high) → Round n i bs bs′ live live′ rows3 js js′
-    round-of p b rows3 y e s u is w x =
+    pub round-of : (p : Pair) {js′ : List ℕ} → pairAt live c ≡ best (reach bs) live → p ≡ pairAt live c → length live′ ≡ length live → Puts (n + i) (hullOf (boxAt bs (p .low)) (boxAt bs (p .high))) bs bs′ → js′ ≡ set (set js (2 * i) (p .low)) (2 * i + 1) (p .high) → Round n i bs bs′ live live′ rows2 js js′
+    round-of p y e s u x =
         let a : Made (n + i) (pairAt live c) bs bs′ live live′ = record { puts = rw e at u; packs = left-after (pairAt live c) (n + i) live live′ (c .row) (c .with) s (stay .1) (stay .0) (d .nodes) (d .last) } in
-        record { made = rw y at a; right = rw y at (right-round b rows3 (rw e at u) is w); writes = rw (e ∙ y) at x }
+        record { made = rw y at a; right = rw y at (right-round (rw e at u)); writes = rw (e ∙ y) at x }
 
 -- ---- the rows of the sinks, one at a time
-pub right-sink : {bs : List ℕ} (i : ℕ) (b : Box) (rows rows′ : List ℕ) → Right bs (upTo i) i (rowAt rows) → b ≡ boxAt bs i → Entered i b i rows rows′ → Right bs (upTo (i + 1)) (i + 1) (rowAt rows′)
+pub right-sink : {bs : List ℕ} (i : ℕ) (b : Box) (rows rows′ : List ℕ) → Right bs (upTo i) i (rowAt rows) → b ≡ boxAt bs i → Entered i b i (rowAt rows) (rowAt rows′) → Right bs (upTo (i + 1)) (i + 1) (rowAt rows′)
 right-sink i b rows rows′ v is w =
     let z : i + 0 ≡ i = omega arith in
-    rw (upTo-more i) (right-enter b i is (sym (length-upTo i)) v (rw z at (packed-begin i .low)) (w .holds) (w .gives) (w .puts))
+    rw (upTo-more i) (right-enter b i is (sym (length-upTo i)) v (rw z at (packed-begin i .low)) w)
 
 two-more : (l : List ℕ) (k a b : ℕ) → k + 1 < length l → take (k + 2) (set (set l k a) (k + 1) b) ≡ take k l ++ (a ∷ b ∷ [])
 two-more l k a b h =

@@ -1,5 +1,5 @@
 -- The list of rows: what a write changes, and what a run of them does.
-use mathlib.Core.Path.{_≡_, refl, sym, _∙_, ap}
+use mathlib.Core.Path.{_≡_, refl, sym, _∙_, ap, subst}
 use mathlib.Core.Bool.{Bool, true, false, cond}
 use mathlib.Core.List.{List}
 use Prim.Native.Nat.{ℕ, zero, suc, _+_, _*_, _≤_, _<_}
@@ -76,31 +76,37 @@ wrote-box b rows t r h =
     (wrote-more 2 (b .lv .0) (omega arith) (wrote-more 1 (b .hu .0) (omega arith) (wrote-more 0 (b .lu .0) (omega arith) (wrote-begin rows t r h))))) in
     record { here = ap (λ (x : Row). x .box) (w .here); others = w .others }
 
--- a row that is held, in two writes
-pub wrote-held : (b : Box) (m : ℕ) (rows : List ℕ) (t : ℕ) {e x y : ℕ} → Roomy rows → t < 512 → e ≡ span (rowAt rows t) b → x ≡ cond (ltb e (num rows t 4)) e (num rows t 4) → y ≡ cond (ltb e (num rows t 4)) m (num rows t 5) → Sets t (held b m (rowAt rows t)) rows (set (set rows (2048 + t) x) (2560 + t) y)
-unfolding held
-wrote-held b m rows t r h p u v = rw (u, v, p) (go (ltb (span (rowAt rows t) b) (num rows t 4)))
-  where
-    go : (q : Bool) → Sets t (cond q (given (rowAt rows t) m (span (rowAt rows t) b)) (rowAt rows t)) rows (set (set rows (2048 + t) (cond q (span (rowAt rows t) b) (num rows t 4))) (2560 + t) (cond q m (num rows t 5)))
-    go true = wrote-row (wrote-more 5 m (omega arith) (wrote-more 4 (span (rowAt rows t) b) (omega arith) (wrote-begin rows t r h)))
-    go false = wrote-row (wrote-more 5 (num rows t 5) (omega arith) (wrote-more 4 (num rows t 4) (omega arith) (wrote-begin rows t r h)))
-
--- another row in six writes
+-- the box of another row in four writes
 abbrev pub copy : ℕ → List ℕ → ℕ → ℕ → List ℕ
 copy c rows t s = set rows (place c t) (num rows s c)
 
-pub wrote-later : (rows : List ℕ) (t s : ℕ) → Roomy rows → t < s → s < 512 → Sets t (rowAt rows s) rows (copy 5 (copy 4 (copy 3 (copy 2 (copy 1 (copy 0 rows t s) t s) t s) t s) t s) t s)
+abbrev pub boxOf : List ℕ → ℕ → (ℕ → ℕ) → ℕ → ℕ
+boxOf rows s f = put 3 (num rows s 3) (put 2 (num rows s 2) (put 1 (num rows s 1) (put 0 (num rows s 0) f)))
+
+pub wrote-later : (rows : List ℕ) (t s : ℕ) → Roomy rows → t < s → s < 512 → Wrote t (boxOf rows s (num rows t)) rows (copy 3 (copy 2 (copy 1 (copy 0 rows t s) t s) t s) t s)
 wrote-later rows t s r l h =
-    wrote-row (wrote-copy 5 s (omega arith) h n
-    (wrote-copy 4 s (omega arith) h n
-    (wrote-copy 3 s (omega arith) h n
+    wrote-copy 3 s (omega arith) h n
     (wrote-copy 2 s (omega arith) h n
     (wrote-copy 1 s (omega arith) h n
     (wrote-copy 0 s (omega arith) h n
-    (wrote-begin rows t r (omega arith))))))))
+    (wrote-begin rows t r (omega arith)))))
   where
     n : s ≡ t → ⊥
     n e = omega arith
+
+-- row s that is held, in two more writes once its box is row t's
+pub wrote-held : (b : Box) (m : ℕ) (rows : List ℕ) (s : ℕ) {mid : List ℕ} {t : ℕ} {f : ℕ → ℕ} {e x y : ℕ} → Wrote t f rows mid → rowOf f .box ≡ rowAt rows s .box → e ≡ span (rowAt rows s) b → x ≡ cond (ltb e (num rows s 4)) e (num rows s 4) → y ≡ cond (ltb e (num rows s 4)) m (num rows s 5) → Sets t (held b m (rowAt rows s)) rows (set (set mid (2048 + t) x) (2560 + t) y)
+unfolding held
+wrote-held b m rows s {mid} {t} {f} w same p u v = rw (u, v, p) (go (ltb (span (rowAt rows s) b) (num rows s 4)))
+  where
+    both : (far at : ℕ) → Sets t (record { box = rowAt rows s .box; far = far; at = at }) rows (set (set mid (2048 + t) far) (2560 + t) at)
+    both far at =
+        subst (λ (o : Box). Sets t (record { box = o; far = far; at = at }) rows (set (set mid (2048 + t) far) (2560 + t) at)) same
+        (wrote-row (wrote-more 5 at (omega arith) (wrote-more 4 far (omega arith) w)))
+
+    go : (q : Bool) → Sets t (cond q (given (rowAt rows s) m (span (rowAt rows s) b)) (rowAt rows s)) rows (set (set mid (2048 + t) (cond q (span (rowAt rows s) b) (num rows s 4))) (2560 + t) (cond q m (num rows s 5)))
+    go true = both (span (rowAt rows s) b) m
+    go false = both (num rows s 4) (num rows s 5)
 
 -- ---- the first k rows, held one after the other
 pub record Holding (b : Box) (m : ℕ) (old new : List ℕ) (t : ℕ) : Type 0 where

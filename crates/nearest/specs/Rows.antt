@@ -79,18 +79,18 @@ pub record NewBox (t : ℕ) (b : Box) (old new : List ℕ) : Type 0 where
   pub here : rowAt new t .box ≡ b
   pub others : (s : ℕ) → s < 512 → (s ≡ t → ⊥) → rowAt new s ≡ rowAt old s
 
--- of n entries, each of a run is now the one so many later, and the others are as they were
-pub record Shifts {A : Type 0} (n by from to : ℕ) (old new : ℕ → A) : Type 0 where
+-- of n entries, each of a run is now made of the one so many later, and the others are as they were
+pub record Shifts {A : Type 0} (make : A → A) (n by from to : ℕ) (old new : ℕ → A) : Type 0 where
   pub before : (t : ℕ) → t < from → new t ≡ old t
-  pub moved : (t : ℕ) → from ≤ t → t < to → new t ≡ old (t + by)
+  pub moved : (t : ℕ) → from ≤ t → t < to → new t ≡ make (old (t + by))
   pub after : (t : ℕ) → to ≤ t → t < n → new t ≡ old t
 
--- the same of rows, and of live nodes
-abbrev pub RowsUp : ℕ → ℕ → ℕ → List ℕ → List ℕ → Type 0
-RowsUp by from to old new = Shifts 512 by from to (rowAt old) (rowAt new)
+-- rows move up, held against node m with box b; live nodes move up as they are
+abbrev pub RowsUp : ℕ → ℕ → ℕ → Box → ℕ → List ℕ → List ℕ → Type 0
+RowsUp by from to b m old new = Shifts (held b m) 512 by from to (rowAt old) (rowAt new)
 
 abbrev pub NodesUp : ℕ → ℕ → ℕ → List ℕ → List ℕ → Type 0
-NodesUp by from to old new = Shifts (length old) by from to (λ t. getD old t 0) (λ t. getD new t 0)
+NodesUp by from to old new = Shifts (λ x. x) (length old) by from to (λ t. getD old t 0) (λ t. getD new t 0)
 
 -- no row changed
 abbrev pub SameRows : List ℕ → List ℕ → Type 0
@@ -154,14 +154,20 @@ pub record Picks (bs live rows : List ℕ) (r : Choice) (rows′ : List ℕ) : T
   pub inside : r .with < length live
   pub right : (m : ℕ) → Below m live → Right bs live m (rowAt rows) → Right bs live m (rowAt rows′)
 
--- the two nodes of a pair have left with their rows, those after them moved up, and node m comes last
-pub record Closed (c : Choice) (m : ℕ) (live live′ rows rows′ : List ℕ) : Type 0 where
-  pub nodes : (t : ℕ) → t + 2 < length live → getD live′ t 0 ≡ getD live (skip (c .with) (skip (c .row) t)) 0
-  pub moved : (t : ℕ) → t + 2 < length live → rowAt rows′ t ≡ rowAt rows (skip (c .with) (skip (c .row) t))
-  pub last : getD live′ (length live - 2) 0 ≡ m
-
--- node m with box b has entered after k rows: each was held against it, and the last has no other partner
-pub record Entered (k : ℕ) (b : Box) (m : ℕ) (rows rows′ : List ℕ) : Type 0 where
-  pub holds : (t : ℕ) → t + 1 < k → rowAt rows′ t ≡ held b m (rowAt rows t)
+-- node m with box b comes after k rows: they are as they were, but the last has no other partner
+pub record Seated (k : ℕ) (b : Box) (m : ℕ) (rows rows′ : List ℕ) : Type 0 where
+  pub same : (t : ℕ) → t + 1 < k → rowAt rows′ t ≡ rowAt rows t
   pub gives : (t : ℕ) → t + 1 ≡ k → rowAt rows′ t ≡ given (rowAt rows t) m (span (rowAt rows t) b)
   pub puts : rowAt rows′ k .box ≡ b
+
+-- node m with box b has entered after k rows: each was held against it, and the last has no other partner
+pub record Entered (k : ℕ) (b : Box) (m : ℕ) (row row′ : ℕ → Row) : Type 0 where
+  pub holds : (t : ℕ) → t + 1 < k → row′ t ≡ held b m (row t)
+  pub gives : (t : ℕ) → t + 1 ≡ k → row′ t ≡ given (row t) m (span (row t) b)
+  pub puts : row′ k .box ≡ b
+
+-- the two nodes of a pair have left with their rows, those after them moved up, and node m with box b comes last
+pub record Closed (c : Choice) (b : Box) (m : ℕ) (live live′ rows rows′ : List ℕ) : Type 0 where
+  pub nodes : (t : ℕ) → t + 2 < length live → getD live′ t 0 ≡ getD live (skip (c .with) (skip (c .row) t)) 0
+  pub last : getD live′ (length live - 2) 0 ≡ m
+  pub enters : Entered (length live - 2) b m (λ t. rowAt rows (skip (c .with) (skip (c .row) t))) (rowAt rows′)

@@ -1,10 +1,10 @@
 // The live nodes and their rows, from join to join.
-ghost use Prim.Native.Nat.{_*_, _≤_, _<_};
+ghost use Prim.Native.Nat.{_-_, _*_, _≤_, _<_};
 ghost use lib.ListN.{length};
 ghost use Rattle.lists.specs.Grow.{upTo};
 ghost use Rattle.plane.specs.Boxes.{InOrder};
 ghost use Rattle.nearest.specs.Boxes.{Upright};
-ghost use Rattle.nearest.specs.Rows.{rowAt, Roomy, Right, Closed, Entered};
+ghost use Rattle.nearest.specs.Rows.{rowAt, Roomy, skip, Right, Seated, Entered, Closed};
 use crate::best::Choice;
 use crate::live;
 use crate::pair::Near;
@@ -12,34 +12,53 @@ use crate::rows;
 use crate::table;
 use plane::boxes::Box;
 
-// The two nodes of a pair leave with their rows, and node m is live after all others. Those between the two move up by one place, those after both by two: each moves once.
-pub fn close(live: &mut [usize], rows: &mut [u32], c: Choice, m: usize)
-    requires { ⌜ Roomy (now rows) × (length (now live) ≤ 512) × (c .row < c .with) × (c .with < length (now live)) ⌝ }
-    ensures { λ _. ⌜ Closed c m (now (live .entry)) (now (live .exit)) (now (rows .entry)) (now (rows .exit)) ⌝ }
-{
-    let k = live.len();
-    let b = c.with - 1;
-    rows::up_one(rows, c.row, b);
-    rows::up_two(rows, b, k - 2);
-    live::up_one(live, c.row, b);
-    live::up_two(live, b, k - 2);
-    live[k - 2] = m;
-}
-
-// Node m with box b enters after k rows. Each is held against it; the last had no later node, so this one is its partner.
-pub fn enter(rows: &mut [u32], k: usize, b: Box, m: usize)
+// Node m with box b comes after k rows that were held against it. The last of them had no later node, so this one is its partner, whatever it kept.
+fn seat(rows: &mut [u32], k: usize, b: Box, m: usize)
     requires { ⌜ Roomy (now rows) × (k < 512) × (m < 1024) × InOrder b ⌝ }
-    ensures { λ _. ⌜ Entered k b m (now (rows .entry)) (now (rows .exit)) ⌝ }
+    ensures { λ _. ⌜ Seated k b m (now (rows .entry)) (now (rows .exit)) ⌝ }
 {
+    rows::put_row(rows, k, b);
     if k == 0 {
-        rows::put_row(rows, k, b);
         return;
     }
     let last = k - 1;
-    rows::hold(rows, last, b, m as u32);
     let e = rows::span(rows, last, b);
     rows::give(rows, last, Near { at: m, far: e });
-    rows::put_row(rows, k, b);
+}
+
+// Node m with box b enters after k rows.
+fn enter(rows: &mut [u32], k: usize, b: Box, m: usize)
+    requires { ⌜ Roomy (now rows) × (k < 512) × (m < 1024) × InOrder b ⌝ }
+    ensures { λ _. ⌜ Entered k b m (rowAt (now (rows .entry))) (rowAt (now (rows .exit))) ⌝ }
+{
+    rows::hold(rows, k, b, m as u32);
+    seat(rows, k, b, m);
+}
+
+// The rows of a pair leave k rows, and node m with box b enters after those that stay. Those between the two move up by one place, those after both by two: each is held against the new node where it stands or as it moves, so all is one pass.
+fn close_rows(rows: &mut [u32], k: usize, c: Choice, b: Box, m: usize)
+    requires { ⌜ Roomy (now rows) × (k ≤ 512) × (c .row < c .with) × (c .with < k) × (m < 1024) × InOrder b ⌝ }
+    ensures { λ _. ⌜ Entered (k - 2) b m (λ t. rowAt (now (rows .entry)) (skip (c .with) (skip (c .row) t))) (rowAt (now (rows .exit))) ⌝ }
+{
+    let w = c.with - 1;
+    let n = m as u32;
+    rows::hold(rows, c.row, b, n);
+    rows::take_one(rows, c.row, w, b, n);
+    rows::take_two(rows, w, k - 2, b, n);
+    seat(rows, k - 2, b, m);
+}
+
+// The two nodes of a pair leave with their rows, and node m with box b is live after all others.
+pub fn close(live: &mut [usize], rows: &mut [u32], c: Choice, b: Box, m: usize)
+    requires { ⌜ Roomy (now rows) × (length (now live) ≤ 512) × (c .row < c .with) × (c .with < length (now live)) × (m < 1024) × InOrder b ⌝ }
+    ensures { λ _. ⌜ Closed c b m (now (live .entry)) (now (live .exit)) (now (rows .entry)) (now (rows .exit)) ⌝ }
+{
+    let k = live.len();
+    let w = c.with - 1;
+    close_rows(rows, k, c, b, m);
+    live::up_one(live, c.row, w);
+    live::up_two(live, w, k - 2);
+    live[k - 2] = m;
 }
 
 // The rows of all sinks.

@@ -47,8 +47,7 @@ fn round(bs: &mut [u32], live: &mut [usize], rows: &mut [u32], n: usize, i: usiz
     let c = best::nearest(live, bs, rows);
     let p = best::pair_at(live, c);
     table::put_hull(bs, m, p);
-    keep::close(live, rows, c, m);
-    keep::enter(rows, live.len() - 2, table::box_at(bs, m), m);
+    keep::close(live, rows, c, table::box_at(bs, m), m);
     write_pair(js, i, p);
 }
 

@@ -96,39 +96,43 @@ pub fn put_row(rows: &mut [u32], t: usize, b: Box)
     rows[1536 + t] = measure::kept(b.hv);
 }
 
-// Row s moves to t.
-fn move_up(rows: &mut [u32], t: usize, s: usize)
-    requires { ⌜ Roomy (now rows) × (t < s) × (s < 512) ⌝ }
-    ensures { λ _. ⌜ Sets t (rowAt (now (rows .entry)) s) (now (rows .entry)) (now (rows .exit)) ⌝ }
+// Row s, held against node m with box b, becomes row t. All numbers are written in any case: so many rows at a time can be.
+fn take_row(rows: &mut [u32], t: usize, s: usize, b: Box, m: u32)
+    requires { ⌜ Roomy (now rows) × (t < s) × (s < 512) × InOrder b ⌝ }
+    ensures { λ _. ⌜ Sets t (held b m (rowAt (now (rows .entry)) s)) (now (rows .entry)) (now (rows .exit)) ⌝ }
 {
+    let e = span(rows, s, b);
+    let far = rows[2048 + s];
+    let at = rows[2560 + s];
+    let nearer = e < far;
     rows[t] = rows[s];
     rows[512 + t] = rows[512 + s];
     rows[1024 + t] = rows[1024 + s];
     rows[1536 + t] = rows[1536 + s];
-    rows[2048 + t] = rows[2048 + s];
-    rows[2560 + t] = rows[2560 + s];
+    rows[2048 + t] = if nearer { e } else { far };
+    rows[2560 + t] = if nearer { m } else { at };
 }
 
-// Each row of a run becomes the one after it. How far rows move is a plain number here and in the next: so many move at a time.
-pub fn up_one(rows: &mut [u32], from: usize, to: usize)
-    requires { ⌜ Roomy (now rows) × (from ≤ to) × (to < 512) ⌝ }
-    ensures { λ _. ⌜ RowsUp 1 from to (now (rows .entry)) (now (rows .exit)) ⌝ }
+// Each row of a run becomes the one after it, held against node m with box b. How far rows move is a plain number here and in the next: so many move at a time.
+pub fn take_one(rows: &mut [u32], from: usize, to: usize, b: Box, m: u32)
+    requires { ⌜ Roomy (now rows) × (from ≤ to) × (to < 512) × InOrder b ⌝ }
+    ensures { λ _. ⌜ RowsUp 1 from to b m (now (rows .entry)) (now (rows .exit)) ⌝ }
 {
     let mut t = from;
     while t < to {
-        move_up(rows, t, t + 1);
+        take_row(rows, t, t + 1, b, m);
         t += 1;
     }
 }
 
-// Each row of a run becomes the second after it.
-pub fn up_two(rows: &mut [u32], from: usize, to: usize)
-    requires { ⌜ Roomy (now rows) × (from ≤ to) × (to + 1 < 512) ⌝ }
-    ensures { λ _. ⌜ RowsUp 2 from to (now (rows .entry)) (now (rows .exit)) ⌝ }
+// Each row of a run becomes the second after it, held against node m with box b.
+pub fn take_two(rows: &mut [u32], from: usize, to: usize, b: Box, m: u32)
+    requires { ⌜ Roomy (now rows) × (from ≤ to) × (to + 1 < 512) × InOrder b ⌝ }
+    ensures { λ _. ⌜ RowsUp 2 from to b m (now (rows .entry)) (now (rows .exit)) ⌝ }
 {
     let mut t = from;
     while t < to {
-        move_up(rows, t, t + 2);
+        take_row(rows, t, t + 2, b, m);
         t += 1;
     }
 }

@@ -1,7 +1,7 @@
 use mathlib.Core.Path.{_∙_}
 use native.Mathlib.Omega.{arith}
-use borrow.Author.Needs.{needs}
 use Rattle.nearest.proofs.Going.{open-caching, open-low, open-upright, round-of}
+use borrow.Author.Needs.{needs}
 use Rattle.nearest.proofs.order.round.Statement.{statement}
 use Rattle.nearest.proofs.order.round.Tie as tie
 
@@ -20,24 +20,20 @@ put-hull-requires c κs =
     let (low, high) = open-low (c .before .pair-at .result) o (c .before .pair-at .ensures ∙ c .before .before .before .before .before .nearest .ensures .0) in
     (o .box-room, low, high)
 
-close-requires : tie.Need-close-requires
-close-requires c κs = search needs
-
-sub-enter : tie.Need-sub-enter
-sub-enter c = search needs
-
 box-at-requires : tie.Need-box-at-requires
 box-at-requires c κs = search needs
 
-enter-requires : tie.Need-enter-requires
-enter-requires c κs =
-    let o = c .before .before .before .before .before .before .before .before .before .before .before .before .before .before .before .before .before .before .before .before .before .before .before .before .before .before .pre in
-    (omega (arith, o .roomy, c .before .before .before .before .before .before .before .before .before .before .before .before .before .before .before .before .before .rows .given, c .before .before .before .before .rows2 .given), omega (arith, o .packed .count, o .few, o .turn, c .before .before .before .before .before .before .live .given), omega (arith, o .few, o .turn), open-upright (c .before .before .before .before .before .before .before .before .before .before .before .before .before .before .pair-at .result) (c .box-at .result) o (c .before .before .before .before .before .before .before .before .before .before .before .before .before .before .pair-at .ensures ∙ c .before .before .before .before .before .before .before .before .before .before .before .before .before .before .before .before .before .before .nearest .ensures .0) (c .before .before .before .before .before .before .before .before .before .before .before .before .put-hull .ensures) (c .box-at .ensures))
+close-requires : tie.Need-close-requires
+close-requires c κs =
+    let o = c .before .before .before .before .before .before .before .before .before .before .before .before .before .before .before .before .before .before .before .before .pre in
+    let w = c .before .before .before .before .before .before .before .before .before .before .before .before .nearest .ensures in
+    let e = c .before .before .before .before .before .before .before .before .pair-at .ensures ∙ w .0 in
+    (omega (arith, o .roomy, c .before .before .before .before .before .before .before .before .before .before .before .rows .given), omega (arith, o .packed .count, o .few), w .1 .up, w .1 .inside, omega (arith, o .few, o .turn), open-upright (c .before .before .before .before .before .before .before .before .pair-at .result) (c .box-at .result) o e (c .before .before .before .before .before .before .put-hull .ensures) (c .box-at .ensures))
 
 write-pair-requires : tie.Need-write-pair-requires
 write-pair-requires c κs =
-    let o = c .before .before .before .before .before .before .before .before .before .before .before .before .before .before .before .before .before .before .before .before .before .before .before .before .before .before .before .before .before .before .pre in
-    let (low, high) = open-low (c .before .before .before .before .before .before .before .before .before .before .before .before .before .before .before .before .before .before .pair-at .result) o (c .before .before .before .before .before .before .before .before .before .before .before .before .before .before .before .before .before .before .pair-at .ensures ∙ c .before .before .before .before .before .before .before .before .before .before .before .before .before .before .before .before .before .before .before .before .before .before .nearest .ensures .0) in
+    let o = c .before .before .before .before .before .before .before .before .before .before .before .before .before .before .before .before .before .before .before .before .before .before .before .before .before .before .pre in
+    let (low, high) = open-low (c .before .before .before .before .before .before .before .before .before .before .before .before .before .before .pair-at .result) o (c .before .before .before .before .before .before .before .before .before .before .before .before .before .before .pair-at .ensures ∙ c .before .before .before .before .before .before .before .before .before .before .before .before .before .before .before .before .before .before .nearest .ensures .0) in
     (o .room, omega (arith, low, o .turn, o .few), omega (arith, high, o .turn, o .few))
 
 same-length : tie.Need-same-length
@@ -47,17 +43,16 @@ same-length-2 : tie.Need-same-length-2
 same-length-2 c = search needs
 
 same-length-3 : tie.Need-same-length-3
-same-length-3 c = c .before .before .before .before .before .rows3 .given ∙ c .before .before .before .before .before .before .before .before .before .before .before .rows2 .given ∙ c .before .before .before .before .before .before .before .before .before .before .before .before .before .before .before .before .before .before .before .before .before .before .before .before .rows .given
+same-length-3 c = search needs
 
 same-length-4 : tie.Need-same-length-4
 same-length-4 c = search needs
 
 returns : tie.Need-returns
 returns c =
-    let p = c .before .before .before .before .before .before .before .before .before .before .before .before .before .before .before .before .before .before .before .before .before .pair-at in
-    let b = c .before .before .before .before .before .before .before .box-at in
-    let w = rw (c .before .before .before .before .before .before .before .before .before .before .before .before .before .live .given) at (c .before .before .before .before .before .before .enter .ensures) in
-    round-of (c .before .before .before .before .before .before .before .before .before .before .before .before .before .before .before .before .before .before .before .before .before .before .before .before .before .nearest .result) (c .before .before .before .before .before .before .before .before .before .before .before .before .before .before .before .before .before .before .before .before .before .before .before .before .before .before .before .before .before .before .before .before .before .pre) (c .before .before .before .before .before .before .before .before .before .before .before .before .before .before .before .before .before .before .before .before .before .before .before .before .before .nearest .ensures .1) (c .before .before .before .before .before .before .before .before .before .before .before .before .before .before .close .ensures) (p .result) (b .result) (c .before .before .before .before .before .before .enter .last .0) (c .before .before .before .before .before .before .before .before .before .before .before .before .before .before .before .before .before .before .before .before .before .before .before .before .before .nearest .ensures .0) (p .ensures) (c .before .before .before .before .before .before .before .before .before .before .before .before .before .live .given) (c .before .before .before .before .before .before .before .before .before .before .before .before .before .before .before .before .before .before .before .put-hull .ensures) (b .ensures) w (c .before .before .write-pair .ensures)
+    let p = c .before .before .before .before .before .before .before .before .before .before .before .before .before .before .before .before .before .pair-at in
+    let w = c .before .before .before .before .before .before .before .before .before .before .before .before .before .before .before .before .before .before .before .before .before .nearest in
+    round-of (w .result) (c .before .before .before .before .before .before .before .before .before .before .before .before .before .before .before .before .before .before .before .before .before .before .before .before .before .before .before .before .before .pre) (w .ensures .1) (c .before .before .before .before .before .before .before .before .before .box-at .ensures) (c .before .before .before .before .before .before .before .before .close .ensures) (p .result) (w .ensures .0) (p .ensures) (c .before .before .before .before .before .before .before .live .given) (c .before .before .before .before .before .before .before .before .before .before .before .before .before .before .before .put-hull .ensures) (c .before .before .write-pair .ensures)
 
 pub round-spec : {M : Type 1} → statement M
 round-spec =
@@ -67,10 +62,8 @@ round-spec =
     nearest-requires
     pair-at-requires
     put-hull-requires
-    close-requires
-    sub-enter
     box-at-requires
-    enter-requires
+    close-requires
     write-pair-requires
     same-length
     same-length-2

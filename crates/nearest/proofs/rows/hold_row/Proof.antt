@@ -1,8 +1,9 @@
+use mathlib.Core.Path.{refl}
 use mathlib.Core.Logic.{⊎-elim}
 use native.Mathlib.Omega.{arith}
 use denote.Ref.{now}
 use lib.ListN.{length-set}
-use Rattle.nearest.proofs.Rowing.{wrote-held}
+use Rattle.nearest.proofs.Rowing.{wrote-begin, wrote-held}
 use borrow.Author.Needs.{needs}
 use Rattle.nearest.proofs.rows.hold_row.Statement.{statement}
 use Rattle.nearest.proofs.rows.hold_row.Tie as tie
@@ -52,7 +53,7 @@ same-length c = search needs
 returns : tie.Need-returns
 returns c =
     let s = c .before .before .before .before .before .before .before in
-    wrote-held (s .args .b) (s .args .m) (now (s .args .rows)) (s .args .t) (s .pre .0) (s .pre .1) (c .before .before .before .before .span .ensures)
+    wrote-held (s .args .b) (s .args .m) (now (s .args .rows)) (s .args .t) (wrote-begin (now (s .args .rows)) (s .args .t) (s .pre .0) (s .pre .1)) refl (c .before .before .before .before .span .ensures)
     (⊎-elim (λ w. rw (w .0 .taken) (w .1)) (λ w. rw (w .0 .left) (w .1)) (c .before .if1 .came))
     (⊎-elim (λ w. rw (w .0 .taken) (w .1)) (λ w. rw (w .0 .left) (w .1)) (c .if2 .came))
 
