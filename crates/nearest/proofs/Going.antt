@@ -23,7 +23,7 @@ use Rattle.nearest.specs.declared.best.Choice.{Choice}
 use Rattle.nearest.specs.Nearest.{pair, below, union, best, without, after, chosen, joins, alone, order}
 use Rattle.nearest.specs.Boxes.{boxAt, reach, Puts, Sinked}
 use Rattle.nearest.specs.Live.{Packed}
-use Rattle.nearest.specs.Rows.{rowAt, Roomy, skip, Right, Caching, pairAt, Picks, Closed, Entered}
+use Rattle.nearest.specs.Rows.{rowAt, Roomy, skipBoth, Right, Caching, pairAt, Picks, Closed, Entered}
 use Rattle.nearest.specs.Rounds.{Open, Made, Round}
 use Rattle.nearest.proofs.Members.{all-without, in-all}
 use Rattle.nearest.proofs.Pairs.{Within, best-same}
@@ -125,7 +125,7 @@ open-upright {bs = bs} p b o e w is = subst InOrder (sym (is ∙ w .here)) (hull
 -- ---- after a join: the two left, and the new node entered after the others
 module _ {n i : ℕ} {bs live rows rows1 js : List ℕ} (c : Choice) (o : Open n i bs live rows js) (k : Picks bs live rows c rows1) where
   -- which nodes stay
-  stay : ((t : ℕ) → t < length (without (pairAt live c) live) → getD (without (pairAt live c) live) t 0 ≡ getD live (skip (c .with) (skip (c .row) t)) 0) × (length (without (pairAt live c) live) + 2 ≡ length live)
+  stay : ((t : ℕ) → t < length (without (pairAt live c) live) → getD (without (pairAt live c) live) t 0 ≡ getD live (skipBoth c t) 0) × (length (without (pairAt live c) live) + 2 ≡ length live)
   stay = without-at (pairAt live c) (c .row) (c .with) (o .packed .rising) (k .up) (k .inside) refl refl
 
   module _ {bs′ live′ rows2 : List ℕ} {b : Box} (is : b ≡ boxAt bs′ (n + i)) (d : Closed c b (n + i) live live′ rows1 rows2) where

@@ -51,7 +51,7 @@ module _ {A : Type 0} {make : A → A} {n by : ℕ} where
           let p = eqb-false s t q in
           others s (omega arith) p ∙ v .moved s l (omega (arith, p))
 
--- ---- those before a are made where they stand, those between a and b move up by one, those after b by two: so both have left
+-- ---- those before a stay, those between a and b move up by one, those after b by two, and each is made anew on its way: so both have left
 module _ {A : Type 0} {make : A → A} {n m : ℕ} {old first mid new : ℕ → A} (a b k : ℕ) (h : a < b) (l : k ≤ n) (u : (t : ℕ) → t < a → first t ≡ make (old t)) (o : (t : ℕ) → a ≤ t → t < n → first t ≡ old t) (v : Shifts make n 1 a (b - 1) first mid) (w : Shifts make m 2 (b - 1) (k - 2) mid new) where
   early : (t : ℕ) → t < b - 1 → t + 2 < k → mid t ≡ make (old (skip b (skip a t)))
   early t p g =

@@ -56,7 +56,7 @@ wrote-more c x {t} {f} {old} {mid} h w =
     go d l false e = let p = eqb-false d c e in getD-set-other mid (place c t) (place d t) x 0 (λ q. p (omega (arith, q, place-is c t, place-is d t))) ∙ w .here d l
 
 -- one more number is written, that of another row
-pub wrote-copy : (c s : ℕ) {t : ℕ} {f : ℕ → ℕ} {old mid : List ℕ} → c < 6 → s < 512 → (s ≡ t → ⊥) → Wrote t f old mid → Wrote t (put c (num old s c) f) old (set mid (place c t) (num mid s c))
+wrote-copy : (c s : ℕ) {t : ℕ} {f : ℕ → ℕ} {old mid : List ℕ} → c < 6 → s < 512 → (s ≡ t → ⊥) → Wrote t f old mid → Wrote t (put c (num old s c) f) old (set mid (place c t) (num mid s c))
 wrote-copy c s {t} {f} {old} {mid} h g n w = rw (w .others c s h g n) (wrote-more c (num old s c) h w)
 
 -- the row as a whole
@@ -76,14 +76,14 @@ wrote-box b rows t r h =
     (wrote-more 2 (b .lv .0) (omega arith) (wrote-more 1 (b .hu .0) (omega arith) (wrote-more 0 (b .lu .0) (omega arith) (wrote-begin rows t r h))))) in
     record { here = ap (λ (x : Row). x .box) (w .here); others = w .others }
 
--- the box of another row in four writes
+-- the box of a later row in four writes
 abbrev pub copy : ℕ → List ℕ → ℕ → ℕ → List ℕ
 copy c rows t s = set rows (place c t) (num rows s c)
 
-abbrev pub boxOf : List ℕ → ℕ → (ℕ → ℕ) → ℕ → ℕ
-boxOf rows s f = put 3 (num rows s 3) (put 2 (num rows s 2) (put 1 (num rows s 1) (put 0 (num rows s 0) f)))
+abbrev pub withBox : List ℕ → ℕ → (ℕ → ℕ) → ℕ → ℕ
+withBox rows s f = put 3 (num rows s 3) (put 2 (num rows s 2) (put 1 (num rows s 1) (put 0 (num rows s 0) f)))
 
-pub wrote-later : (rows : List ℕ) (t s : ℕ) → Roomy rows → t < s → s < 512 → Wrote t (boxOf rows s (num rows t)) rows (copy 3 (copy 2 (copy 1 (copy 0 rows t s) t s) t s) t s)
+pub wrote-later : (rows : List ℕ) (t s : ℕ) → Roomy rows → t < s → s < 512 → Wrote t (withBox rows s (num rows t)) rows (copy 3 (copy 2 (copy 1 (copy 0 rows t s) t s) t s) t s)
 wrote-later rows t s r l h =
     wrote-copy 3 s (omega arith) h n
     (wrote-copy 2 s (omega arith) h n
@@ -94,7 +94,7 @@ wrote-later rows t s r l h =
     n : s ≡ t → ⊥
     n e = omega arith
 
--- row s that is held, in two more writes once its box is row t's
+-- row s, held, is row t in two more writes, once t has its box
 pub wrote-held : (b : Box) (m : ℕ) (rows : List ℕ) (s : ℕ) {mid : List ℕ} {t : ℕ} {f : ℕ → ℕ} {e x y : ℕ} → Wrote t f rows mid → rowOf f .box ≡ rowAt rows s .box → e ≡ span (rowAt rows s) b → x ≡ cond (ltb e (num rows s 4)) e (num rows s 4) → y ≡ cond (ltb e (num rows s 4)) m (num rows s 5) → Sets t (held b m (rowAt rows s)) rows (set (set mid (2048 + t) x) (2560 + t) y)
 unfolding held
 wrote-held b m rows s {mid} {t} {f} w same p u v = rw (u, v, p) (go (ltb (span (rowAt rows s) b) (num rows s 4)))

@@ -56,6 +56,10 @@ pub record Sets (t : ℕ) (r : Row) (old new : List ℕ) : Type 0 where
 unfoldable pub skip : ℕ → ℕ → ℕ
 skip a t = cond (ltb t a) t (suc t)
 
+-- the same, once both of a pair have left
+abbrev pub skipBoth : Choice → ℕ → ℕ
+skipBoth c t = skip (c .with) (skip (c .row) t)
+
 -- of k numbers of a list from a place on, the least is d
 pub record Least (ls : List ℕ) (from k d : ℕ) : Type 0 where
   pub place : ℕ
@@ -79,7 +83,7 @@ pub record NewBox (t : ℕ) (b : Box) (old new : List ℕ) : Type 0 where
   pub here : rowAt new t .box ≡ b
   pub others : (s : ℕ) → s < 512 → (s ≡ t → ⊥) → rowAt new s ≡ rowAt old s
 
--- of n entries, each of a run is now made of the one so many later, and the others are as they were
+-- of n entries, each of a run is now what is made of the one so many later, and the others are as they were
 pub record Shifts {A : Type 0} (make : A → A) (n by from to : ℕ) (old new : ℕ → A) : Type 0 where
   pub before : (t : ℕ) → t < from → new t ≡ old t
   pub moved : (t : ℕ) → from ≤ t → t < to → new t ≡ make (old (t + by))
@@ -168,6 +172,6 @@ pub record Entered (k : ℕ) (b : Box) (m : ℕ) (row row′ : ℕ → Row) : Ty
 
 -- the two nodes of a pair have left with their rows, those after them moved up, and node m with box b comes last
 pub record Closed (c : Choice) (b : Box) (m : ℕ) (live live′ rows rows′ : List ℕ) : Type 0 where
-  pub nodes : (t : ℕ) → t + 2 < length live → getD live′ t 0 ≡ getD live (skip (c .with) (skip (c .row) t)) 0
+  pub nodes : (t : ℕ) → t + 2 < length live → getD live′ t 0 ≡ getD live (skipBoth c t) 0
   pub last : getD live′ (length live - 2) 0 ≡ m
-  pub enters : Entered (length live - 2) b m (λ t. rowAt rows (skip (c .with) (skip (c .row) t))) (rowAt rows′)
+  pub enters : Entered (length live - 2) b m (λ t. rowAt rows (skipBoth c t)) (rowAt rows′)

@@ -4,7 +4,7 @@ ghost use lib.ListN.{length};
 ghost use Rattle.lists.specs.Grow.{upTo};
 ghost use Rattle.plane.specs.Boxes.{InOrder};
 ghost use Rattle.nearest.specs.Boxes.{Upright};
-ghost use Rattle.nearest.specs.Rows.{rowAt, Roomy, skip, Right, Seated, Entered, Closed};
+ghost use Rattle.nearest.specs.Rows.{rowAt, Roomy, skipBoth, Right, Seated, Entered, Closed};
 use crate::best::Choice;
 use crate::live;
 use crate::pair::Near;
@@ -35,10 +35,10 @@ fn enter(rows: &mut [u32], k: usize, b: Box, m: usize)
     seat(rows, k, b, m);
 }
 
-// The rows of a pair leave k rows, and node m with box b enters after those that stay. Those between the two move up by one place, those after both by two: each is held against the new node where it stands or as it moves, so all is one pass.
+// The two rows of a pair leave k of them, and node m with box b enters after the others. Those between the two move up by one place, those after both by two, and each is held against the new node on its way: so each is gone over once.
 fn close_rows(rows: &mut [u32], k: usize, c: Choice, b: Box, m: usize)
     requires { ⌜ Roomy (now rows) × (k ≤ 512) × (c .row < c .with) × (c .with < k) × (m < 1024) × InOrder b ⌝ }
-    ensures { λ _. ⌜ Entered (k - 2) b m (λ t. rowAt (now (rows .entry)) (skip (c .with) (skip (c .row) t))) (rowAt (now (rows .exit))) ⌝ }
+    ensures { λ _. ⌜ Entered (k - 2) b m (λ t. rowAt (now (rows .entry)) (skipBoth c t)) (rowAt (now (rows .exit))) ⌝ }
 {
     let w = c.with - 1;
     let n = m as u32;
