@@ -1,11 +1,11 @@
 -- Numbers with sign where they enter and leave the code.
-use mathlib.Core.Path.{_≡_, refl, sym, _∙_}
+use mathlib.Core.Path.{_≡_, refl, sym, ap, _∙_}
 use mathlib.Core.Bool.{Bool, true, false, _&&_}
 use Prim.Native.Nat.{ℕ, suc, _+_, _-_, _≤_, _<_, _^_}
 use native.Mathlib.Omega.{arith}
 use lib.IntN.{ℤ, pos, negsuc, subℕ, _+ℤ_}
 use lib.Signed.{mag}
-use lib.Dec.{T, leb, leb→le, ltb, eqb}
+use lib.Dec.{T, leb, leb→le, ltb, ltb→lt, nltb→le, eqb}
 use borrow.Author.Tests.{le-ltb, eq-eqb, ne-eqb, eqb-true, eqb-false}
 use mir.Val.{SFits, bits, hbits, ofZ, toZ}
 use mir.Facts.{toZ-ofZ}
@@ -13,7 +13,7 @@ use mir.Syntax.{Width, w32, w64}
 use Rattle.lists.proofs.Tests.{choice}
 use Rattle.plane.specs.declared.measure.Doubled.{Doubled}
 use Rattle.plane.specs.Range.{inRange, equal}
-use Rattle.plane.specs.Measures.{lift, unlifted, lowered}
+use Rattle.plane.specs.Measures.{lift, unlifted, lowered, raised}
 
 abbrev pub doubled : ℕ → Doubled
 doubled n = record { 0 = n }
@@ -44,6 +44,12 @@ sub-fits w n c h g = record { sfits = choice (λ z. mag z < 2 ^ hbits w) (ltb n 
 -- a doubled coordinate that is written to a buffer is read back as it was
 pub wrote : (r : ℤ) (n : ℕ) → n ≤ 1000000000 → r ≡ lowered n → toZ w32 (ofZ w32 r) ≡ lowered n
 wrote r n h e = rw e (toZ-ofZ (sub-fits w32 n 128000000 (omega arith) (omega arith)))
+
+pub raised-lowered : (n : ℕ) → raised (lowered n) ≡ doubled n
+raised-lowered n =
+    choice (λ z. raised z ≡ doubled n) (ltb n 128000000) (negsuc (128000000 - suc n)) (pos (n - 128000000))
+    (λ t. let h : n < 128000000 = ltb→lt n 128000000 t in let e : 128000000 - suc (128000000 - suc n) ≡ n = omega arith in ap doubled e)
+    (λ t. let h : 128000000 ≤ n = nltb→le n 128000000 t in let e : n - 128000000 + 128000000 ≡ n = omega arith in ap doubled e)
 
 -- and so is a tilted one
 pub stored : {r : ℤ} {n : ℕ} → (r ≡ unlifted n) × (n < 2 ^ 32) → toZ w64 (ofZ w64 r) ≡ unlifted n

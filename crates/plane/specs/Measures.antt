@@ -22,6 +22,11 @@ unlifted n = subℕ n 64000000
 abbrev pub lowered : ℕ → ℤ
 lowered n = subℕ n 128000000
 
+-- the doubled coordinate that a number with sign stands for
+abbrev pub raised : ℤ → Doubled
+raised (pos n) = record { 0 = n + 128000000 }
+raised (negsuc n) = record { 0 = 128000000 - suc n }
+
 -- the tilted coordinate that a number stands for
 abbrev pub keptAs : ℕ → Tilted
 keptAs n = record { 0 = n }

@@ -4,7 +4,7 @@ ghost use mathlib.Core.Path.{_≡_};
 ghost use Prim.Native.Nat.{_*_, _^_, _≤_, _<_};
 ghost use lib.Dec.{T};
 ghost use Rattle.plane.specs.Range.{inRange, equal};
-ghost use Rattle.plane.specs.Measures.{keptAs, gridOf, uOf, vOf, leastOf, greatestOf, gap, lowOf, highOf, lowerOf, higherOf, nearOf, lowered, unlifted};
+ghost use Rattle.plane.specs.Measures.{keptAs, gridOf, uOf, vOf, leastOf, greatestOf, gap, lowOf, highOf, lowerOf, higherOf, nearOf, lowered, raised, unlifted};
 
 // A coordinate x or y, in grid units.
 pub struct Grid(u32);
@@ -138,4 +138,12 @@ pub fn whole(p: Doubled) -> i32
     ensures { λ r. ⌜ r ≡ lowered (p .0) ⌝ }
 {
     (p.0 as i32) - 128000000
+}
+
+// And back: the doubled coordinate that such a number stands for.
+pub fn lifted(p: i32) -> Doubled
+    requires { ⌜ (p ≡ lowered (raised p .0)) × (raised p .0 ≤ 140000000) ⌝ }
+    ensures { λ r. ⌜ r ≡ raised p ⌝ }
+{
+    Doubled((p + 128000000) as u32)
 }
