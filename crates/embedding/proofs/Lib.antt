@@ -1,6 +1,7 @@
 -- The laws of embedding: what the check of joins accepts; nodes, parents and places of an accepted order; what the arrays of the code come to; and what the tree is worth.
 pub mod Flags
 pub mod Accepted
+pub mod Boxing
 pub mod Parents
 pub mod Orders
 pub mod Values

@@ -1,8 +1,9 @@
--- Embedding a joining order. For a reader: Joins, Nodes, Embedding, Permitted, Described. For the code alone: Sound, Arrays.
+-- Embedding a joining order. For a reader: Joins, Nodes, Embedding, Permitted, Described. For the code alone: Sound, Table, Arrays.
 pub mod Joins
 pub mod Nodes
 pub mod Embedding
 pub mod Permitted
 pub mod Described
 pub mod Sound
+pub mod Table
 pub mod Arrays

@@ -4,4 +4,5 @@ pub mod embed;
 pub mod joins;
 pub mod nodes;
 mod places;
+pub mod table;
 mod wires;

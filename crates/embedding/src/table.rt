@@ -1,0 +1,46 @@
+// The boxes of all nodes in one list of numbers, so that it can be lent: node k's least u, greatest u, least v and greatest v stand at 4k to 4k + 3.
+ghost use mathlib.Core.Path.{_≡_};
+ghost use Prim.Native.Nat.{_*_, _≤_};
+ghost use lib.ListN.{length};
+ghost use Rattle.plane.specs.Sinks.{Ranged};
+ghost use Rattle.embedding.specs.Table.{boxAt, Boxed, Puts, Sinked};
+use plane::bounds;
+use plane::boxes::Box;
+use plane::measure;
+
+// The box of node k.
+pub fn box_at(bs: &[u32], k: usize) -> Box
+    requires { ⌜ Boxed (now bs) k ⌝ }
+    ensures { λ r. ⌜ r ≡ boxAt (now (bs .entry)) k ⌝ }
+{
+    let at = 4 * k;
+    Box {
+        lu: measure::standing_for(bs[at]),
+        hu: measure::standing_for(bs[at + 1]),
+        lv: measure::standing_for(bs[at + 2]),
+        hv: measure::standing_for(bs[at + 3]),
+    }
+}
+
+pub fn put_box(bs: &mut [u32], k: usize, b: Box)
+    requires { ⌜ Boxed (now bs) k ⌝ }
+    ensures { λ _. ⌜ Puts k b (now (bs .entry)) (now (bs .exit)) ⌝ }
+{
+    let at = 4 * k;
+    bs[at] = measure::kept(b.lu);
+    bs[at + 1] = measure::kept(b.hu);
+    bs[at + 2] = measure::kept(b.lv);
+    bs[at + 3] = measure::kept(b.hv);
+}
+
+// The boxes of all sinks.
+pub fn put_sinks(xs: &[i32], ys: &[i32], bs: &mut [u32])
+    requires { ⌜ Ranged (now xs) (now ys) × (4 * length (now xs) ≤ length (now bs)) ⌝ }
+    ensures { λ _. ⌜ Sinked (now (xs .entry)) (now (ys .entry)) (length (now (xs .entry))) (now (bs .exit)) ⌝ }
+{
+    let mut i = 0;
+    while i < xs.len() {
+        put_box(bs, i, bounds::sink_at(xs, ys, i));
+        i += 1;
+    }
+}
