@@ -5,6 +5,8 @@ pub mod Boxing
 pub mod Parents
 pub mod Orders
 pub mod Values
+pub mod Upward
+pub mod Over
 pub mod Lifting
 pub mod Spots
 pub mod Whole

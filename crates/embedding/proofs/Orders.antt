@@ -20,7 +20,7 @@ use Rattle.embedding.specs.Nodes.{nextNode, node, below, d, parent}
 use Rattle.embedding.specs.Arrays.{middle, Boxes}
 use Rattle.embedding.proofs.Parents.{parent-is-join, parent-above, parent-names}
 
-sinks-some : (o : Order) → 0 < length (sinksOf o)
+pub sinks-some : (o : Order) → 0 < length (sinksOf o)
 unfolding sinksOf
 sinks-some (one i) = omega arith
 sinks-some (both l r) = rw (length-append (sinksOf l) (sinksOf r)) (omega (arith, sinks-some l))

@@ -7,3 +7,4 @@ pub mod Described
 pub mod Sound
 pub mod Table
 pub mod Arrays
+pub mod Flat

@@ -1,10 +1,16 @@
 // The nodes of a sound joining order, bottom-up: their boxes, diameters and parents.
-ghost use Prim.Native.Nat.{_-_, _*_, _≤_, _<_};
-ghost use lib.ListN.{length};
+ghost use mathlib.Core.Path.{_≡_};
+ghost use Prim.Native.Nat.{_+_, _-_, _*_, _≤_, _<_};
+ghost use lib.ListN.{length, set};
+ghost use Rattle.plane.specs.Boxes.{hullOf};
 ghost use Rattle.plane.specs.Sinks.{sinksAt};
 ghost use Rattle.embedding.specs.Sound.{Ordered, Sound};
 ghost use Rattle.embedding.specs.Arrays.{Boxes, Diameters, Parents};
+ghost use Rattle.embedding.specs.Embedding.{total};
+ghost use Rattle.embedding.specs.Table.{boxAt, Boxed};
+ghost use Rattle.embedding.specs.Flat.{Room, Blank, Up, PutsJoin, PutsJoins, Made};
 use crate::joins;
+use crate::table;
 use plane::bounds;
 use plane::boxes;
 use plane::boxes::Box;
@@ -47,6 +53,81 @@ pub fn diameters(bs: [Box; 1023], all: usize) -> [u32; 1023]
         k += 1;
     }
     ds
+}
+
+// The box of the union of two nodes.
+fn union_at(bs: &[u32], a: usize, b: usize) -> Box
+    requires { ⌜ Boxed (now bs) a × Boxed (now bs) b ⌝ }
+    ensures { λ r. ⌜ r ≡ hullOf (boxAt (now (bs .entry)) a) (boxAt (now (bs .entry)) b) ⌝ }
+{
+    boxes::hull(table::box_at(bs, a), table::box_at(bs, b))
+}
+
+fn narrow(m: usize) -> u16
+    requires { ⌜ m < 65536 ⌝ }
+    ensures { λ r. ⌜ r ≡ m ⌝ }
+{
+    m as u16
+}
+
+// Node m is the parent of nodes a and b.
+fn put_parent(ps: &mut [u16], a: usize, b: usize, m: usize)
+    requires { ⌜ (a < length (now ps)) × (b < length (now ps)) × (m < 65536) ⌝ }
+    ensures { λ _. ⌜ now (ps .exit) ≡ set (set (now (ps .entry)) a m) b m ⌝ }
+{
+    let p = narrow(m);
+    ps[a] = p;
+    ps[b] = p;
+}
+
+// Join i: the box and the diameter of its node, and whose parent it is.
+fn put_join(js: &[u16], n: usize, i: usize, bs: &mut [u32], ds: &mut [u32], ps: &mut [u16]) -> u32
+    requires { ⌜ Ordered n (now js) × (i < n - 1) × Up n (now js) i (now bs) (now ds) (now ps) ⌝ }
+    ensures { λ r. ⌜ PutsJoin n (now (js .entry)) i (now (bs .entry)) (now (ds .entry)) r (now (bs .exit)) (now (ds .exit)) (now (ps .exit)) ⌝ }
+{
+    let a = joins::entry(js, 2 * i);
+    let b = joins::entry(js, 2 * i + 1);
+    let m = n + i;
+    let c = union_at(bs, a, b);
+    let d = boxes::breadth(c);
+    table::put_box(bs, m, c);
+    ds[m] = d;
+    put_parent(ps, a, b, m);
+    d
+}
+
+// All joins, bottom-up, and the sum of their diameters.
+fn put_joins(js: &[u16], n: usize, bs: &mut [u32], ds: &mut [u32], ps: &mut [u16]) -> u32
+    requires { ⌜ Ordered n (now js) × Up n (now js) 0 (now bs) (now ds) (now ps) ⌝ }
+    ensures { λ r. ⌜ PutsJoins n (now (js .entry)) (n - 1) (now (bs .entry)) r (now (bs .exit)) (now (ds .exit)) (now (ps .exit)) ⌝ }
+{
+    let last = n - 1;
+    let mut sum: u32 = 0;
+    let mut i = 0;
+    while i < last {
+        sum += put_join(js, n, i, bs, ds, ps);
+        i += 1;
+    }
+    sum
+}
+
+// All nodes, and the total: the sum of the diameters of all joins, and the root's once more.
+pub fn put_nodes(
+    xs: &[i32],
+    ys: &[i32],
+    js: &[u16],
+    bs: &mut [u32],
+    ds: &mut [u32],
+    ps: &mut [u16],
+) -> u32
+    requires { ⌜ Sound (now xs) (now ys) (now js) × Room (length (now xs)) (now bs) (now ds) (now ps) × Blank (length (now xs)) (now ds) ⌝ }
+    ensures { λ r. ⌜ Made (sinksAt (now (xs .entry)) (now (ys .entry))) (now (js .entry)) (now (bs .exit)) (now (ds .exit)) (now (ps .exit)) × (r ≡ total (sinksAt (now (xs .entry)) (now (ys .entry))) (now (js .entry))) ⌝ }
+{
+    let n = xs.len();
+    table::put_sinks(xs, ys, bs);
+    let sum = put_joins(js, n, bs, ds, ps);
+    let root = 2 * n - 2;
+    sum + ds[root]
 }
 
 // The parent of each node but the root, from the pairs.

@@ -1,0 +1,63 @@
+-- For the code alone: what its arrays hold. Their numbers are counted from a far corner; `Covers` ties them to document 01's.
+use mathlib.Core.Path.{_≡_}
+use mathlib.Core.List.{List}
+use Prim.Native.Nat.{ℕ, _+_, _-_, _*_, _/_, _≤_, _<_}
+use lib.ListN.{length, getD, set}
+use Rattle.lists.specs.Grow.{sumTo}
+use Rattle.zero_skew.specs.Plane.{Sinks}
+use Rattle.plane.specs.Boxes.{hullOf, diamOf, Fair}
+use Rattle.plane.specs.Covers.{Covers}
+use Rattle.embedding.specs.Joins.{left, right}
+use Rattle.embedding.specs.Nodes.{below}
+use Rattle.embedding.specs.Sound.{Ordered}
+use Rattle.embedding.specs.Table.{boxAt, Boxed}
+use Rattle.embedding.specs.Arrays.{Parents}
+
+-- the boxes of the first m nodes
+abbrev pub Boxes : Sinks → List ℕ → ℕ → List ℕ → Type 0
+Boxes s js m bs = (k : ℕ) → k < m → Covers s (below (s .n) js k) (boxAt bs k)
+
+abbrev pub Fairs : ℕ → List ℕ → Type 0
+Fairs m bs = (k : ℕ) → k < m → Fair (boxAt bs k)
+
+abbrev pub Diameters : ℕ → List ℕ → List ℕ → Type 0
+Diameters m bs ds = (k : ℕ) → k < m → getD ds k 0 ≡ diamOf (boxAt bs k)
+
+-- room for the nodes of n sinks
+pub record Room (n : ℕ) (bs ds ps : List ℕ) : Type 0 where
+  pub boxes : 4 * (2 * n - 1) ≤ length bs
+  pub diameters : 2 * n - 1 ≤ length ds
+  pub parents : 2 * n - 1 ≤ length ps
+
+-- a cleared list: no sink has a diameter
+abbrev pub Blank : ℕ → List ℕ → Type 0
+Blank n ds = (k : ℕ) → k < n → getD ds k 0 ≡ 0
+
+-- the nodes of n sinks and of the first i joins are in the arrays
+pub record Up (n : ℕ) (js : List ℕ) (i : ℕ) (bs ds ps : List ℕ) : Type 0 where
+  pub room : Room n bs ds ps
+  pub fair : Fairs (n + i) bs
+  pub sized : Diameters (n + i) bs ds
+  pub hulls : (j : ℕ) → j < i → boxAt bs (n + j) ≡ hullOf (boxAt bs (left js j)) (boxAt bs (right js j))
+  pub named : (j : ℕ) → j < 2 * i → getD ps (getD js j 0) 0 ≡ n + j / 2
+
+-- join i is put: its diameter, and the arrays before and after
+pub record PutsJoin (n : ℕ) (js : List ℕ) (i : ℕ) (bs ds : List ℕ) (d : ℕ) (bs′ ds′ ps′ : List ℕ) : Type 0 where
+  pub up : Up n js (i + 1) bs′ ds′ ps′
+  pub before : (k : ℕ) → k < n + i → boxAt bs′ k ≡ boxAt bs k
+  pub adds : ds′ ≡ set ds (n + i) d
+
+-- the first i joins are put: the boxes of the sinks before, the sum of the diameters, and the arrays after
+pub record PutsJoins (n : ℕ) (js : List ℕ) (i : ℕ) (bs : List ℕ) (sum : ℕ) (bs′ ds′ ps′ : List ℕ) : Type 0 where
+  pub up : Up n js i bs′ ds′ ps′
+  pub sinks : (k : ℕ) → k < n → boxAt bs′ k ≡ boxAt bs k
+  pub sums : sum ≡ sumTo (λ j. getD ds′ (n + j) 0) i
+  pub low : sum ≤ 6000000 * i
+
+-- the arrays of all nodes
+pub record Made (s : Sinks) (js : List ℕ) (bs ds ps : List ℕ) : Type 0 where
+  pub ordered : Ordered (s .n) js
+  pub room : Room (s .n) bs ds ps
+  pub boxed : Boxes s js (2 * s .n - 1) bs
+  pub sized : Diameters (2 * s .n - 1) bs ds
+  pub named : Parents (s .n) js ps
