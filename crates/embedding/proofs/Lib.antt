@@ -6,6 +6,7 @@ pub mod Parents
 pub mod Orders
 pub mod Values
 pub mod Upward
+pub mod Downward
 pub mod Over
 pub mod Lifting
 pub mod Spots

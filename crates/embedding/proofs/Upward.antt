@@ -41,12 +41,15 @@ pub sink-diam : (x y : ℤ) → diamOf (sinkBox x y) ≡ 0
 unfolding diamOf
 sink-diam x y = omega arith
 
+pub sink-flat : {xs ys : List ℤ} {k : ℕ} {b : Box} → Ranged xs ys → k < length xs → Covers (sinksAt xs ys) (k ∷ []) b → diamOf b ≡ 0
+sink-flat {xs} {ys} {k} {b} r h c = ap diamOf (sink-is xs ys r k h b c) ∙ sink-diam (getD xs k (pos 0)) (getD ys k (pos 0))
+
 pub up-begin : {xs ys : List ℤ} {js bs ds ps : List ℕ} → Ranged xs ys → Room (length xs) bs ds ps → Blank (length xs) ds → Sinked xs ys (length xs) bs → Up (length xs) js 0 bs ds ps
 up-begin {xs} {ys} {js} {bs} {ds} {ps} r room blank w =
     record {
       room = room;
       fair = λ k h. w .covers k (omega arith) .fair;
-      sized = λ k h. blank k (omega arith) ∙ sym (ap diamOf (sink-is xs ys r k (omega arith) (boxAt bs k) (w .covers k (omega arith))) ∙ sink-diam (getD xs k (pos 0)) (getD ys k (pos 0)));
+      sized = λ k h. blank k (omega arith) ∙ sym (sink-flat r (omega arith) (w .covers k (omega arith)));
       hulls = λ j h. absurd (omega arith);
       named = λ j h. absurd (omega arith);
     }
