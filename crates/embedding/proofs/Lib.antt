@@ -6,8 +6,6 @@ pub mod Parents
 pub mod Orders
 pub mod Values
 pub mod Upward
-pub mod Downward
-pub mod Over
 pub mod Lifting
 pub mod Spots
 pub mod Whole

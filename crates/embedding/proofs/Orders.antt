@@ -6,18 +6,13 @@ use Prim.Native.Nat.{ℕ, _+_, _-_, _*_, _≤_, _<_}
 use native.Mathlib.Omega.{arith}
 use borrow.Author.Tests.{lt-ltb, le-ltb}
 use lib.ListN.{length, getD, length-append}
-use Rattle.lists.proofs.Grow.{length-grow, grow-at, grow-low, getD-any}
+use Rattle.lists.proofs.Grow.{length-grow, grow-at, grow-low}
 use Rattle.zero_skew.specs.Plane.{Sinks}
 use Rattle.zero_skew.specs.Order.{Order, one, both, sinksOf}
 use Rattle.zero_skew.proofs.Hull.{under-l, under-r}
-use Rattle.plane.specs.Boxes.{hullOf}
-use Rattle.plane.specs.Covers.{Covers}
-use Rattle.plane.proofs.Covering.{covers-hull}
-use Rattle.plane.specs.declared.boxes.Box.{Box}
 use Rattle.embedding.specs.Joins.{left, right}
 use Rattle.embedding.specs.Sound.{Ordered}
 use Rattle.embedding.specs.Nodes.{nextNode, node, below, d, parent}
-use Rattle.embedding.specs.Arrays.{middle, Boxes}
 use Rattle.embedding.proofs.Parents.{parent-is-join, parent-above, parent-names}
 
 pub sinks-some : (o : Order) → 0 < length (sinksOf o)
@@ -51,20 +46,6 @@ module _ (n : ℕ) (js : List ℕ) (o : Ordered n js) where
   below-join i h = rw (node-join i h)
 
 module _ (s : Sinks) (js : List ℕ) (o : Ordered (s .n) js) where
-  -- the box of a join, from the boxes of the nodes below it
-  pub covers-join : (k : ℕ) → s .n ≤ k → k < 2 * s .n - 1 → (bs : List Box) → k ≤ length bs → Boxes s js k bs
-      → (a b : ℕ) (e : Box) → a ≡ left js (k - s .n) → b ≡ right js (k - s .n) → Covers s (below (s .n) js k) (hullOf (getD bs a e) (getD bs b e))
-  covers-join k h g bs l all a b e p q =
-      let n = s .n in
-      let i = k - n in
-      let w : n + i ≡ k = omega arith in
-      let t : below n js k ≡ below n js (left js i) ++ below n js (right js i) = ap (below n js) (sym w) ∙ below-join n js o i (omega arith) in
-      let lo : left js i < k = omega (arith, o .valid .low-left i (omega arith)) in
-      let hi : right js i < k = omega (arith, o .valid .low-right i (omega arith)) in
-      rw (t, p, q, getD-any bs (left js i) e middle (omega arith), getD-any bs (right js i) e middle (omega arith))
-      (covers-hull s (below n js (left js i)) (below n js (right js i)) (getD bs (left js i) middle) (getD bs (right js i) middle)
-      (sinks-some (node n js (left js i))) (sinks-some (node n js (right js i))) (all (left js i) lo) (all (right js i) hi))
-
   -- a node's diameter is no larger than its parent's
   rises-left : (i : ℕ) → i < s .n - 1 → d s js (left js i) ≤ d s js (s .n + i)
   rises-left i h = rw (below-join (s .n) js o i h) (under-l s (below (s .n) js (left js i)) (below (s .n) js (right js i)))

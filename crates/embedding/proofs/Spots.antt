@@ -1,66 +1,192 @@
--- The array of places: a node more, from the root down; and that they fit.
-use mathlib.Core.Path.{_≡_, refl, sym, _∙_}
+-- The pass down: the places in the buffers, a node more from the root on; and those of the sinks.
+use mathlib.Core.Path.{_≡_, refl, sym, ap, subst, _∙_}
 use mathlib.Core.Logic.{⊎-elim}
-use mathlib.Core.Bool.{Bool, true, false}
-use mathlib.Core.List.{List}
+use mathlib.Core.List.{List, [], _∷_}
 use Prim.Native.Nat.{ℕ, _+_, _-_, _*_, _≤_, _<_, min, max}
 use native.Mathlib.Omega.{arith}
-use borrow.Author.Tests.{eqb-true, eqb-false}
-use lib.Dec.{eqb}
-use lib.ListN.{length, getD, set}
+use lib.IntN.{ℤ, pos}
+use lib.ListN.{length, getD}
 use lib.Seq.{getD-set-same, getD-set-other}
 use Rattle.lists.proofs.Tests.{or-lt}
-use Rattle.plane.specs.Boxes.{diamOf, Fair}
+use Rattle.plane.specs.Measures.{lowered, raised}
+use Rattle.plane.specs.Boxes.{sinkBox, diamOf, Fair}
+use Rattle.plane.specs.Sinks.{sinksAt, Ranged}
+use Rattle.plane.specs.Covers.{Covers}
 use Rattle.plane.specs.Spots.{rootOf, nearestOf}
+use Rattle.plane.proofs.Numbers.{raised-lowered}
 use Rattle.plane.proofs.Covering.{fair-diam}
 use Rattle.plane.specs.declared.boxes.Box.{Box}
 use Rattle.plane.specs.declared.segment.Spot.{Spot}
-use Rattle.embedding.specs.Arrays.{middle, centre, Fairs, Rising, Spots, Low, Lows}
+use Rattle.embedding.specs.Table.{boxAt}
+use Rattle.embedding.specs.Arrays.{Rising, Fairs}
+use Rattle.embedding.specs.Places.{Low, Sized, spotAt, Holds, Has, Open, PutsSpot, Spots, Kept, PutsDown, PutsSinks}
+use Rattle.embedding.proofs.Upward.{sink-is, sink-diam}
 
-pub spots-more : (n : ℕ) (bs : List Box) (ps : List ℕ) (k : ℕ) (ss : List Spot) (s : Spot) → 0 < k → k ≤ 2 * n - 2 → k ≤ length ss → Rising n ps → Spots n bs ps k ss
-    → s ≡ nearestOf (getD bs (k - 1) middle) (getD ss (getD ps (k - 1) 0) centre) → Spots n bs ps (k - 1) (set ss (k - 1) s)
-spots-more n bs ps k ss s h g l rise made e =
-    record {
-      root = getD-set-other ss (k - 1) (2 * n - 2) s centre (λ q. omega arith) ∙ made .root;
-      next = λ i a b. go i a b (eqb (k - 1) i) refl;
-    }
-  where
-    go : (i : ℕ) → k - 1 ≤ i → i < 2 * n - 2 → (t : Bool) → eqb (k - 1) i ≡ t
-        → getD (set ss (k - 1) s) i centre ≡ nearestOf (getD bs i middle) (getD (set ss (k - 1) s) (getD ps i 0) centre)
-    go i a b true q =
-        let r : k - 1 ≡ i = eqb-true (k - 1) i q in
-        let w = rise i b .0 in
-        rw (getD-set-other ss (k - 1) (getD ps i 0) s centre (λ z. omega arith))
-        (rw (← r) (getD-set-same ss (k - 1) s centre (omega arith) ∙ e))
-    go i a b false q =
-        let r = eqb-false (k - 1) i q in
-        let w = rise i b .0 in
-        rw (getD-set-other ss (k - 1) i s centre (λ z. r (sym z)), getD-set-other ss (k - 1) (getD ps i 0) s centre (λ z. omega arith))
-        (made .next i (omega (arith, r)) b)
-
+-- ---- places fit
 root-low : (hi d : ℕ) → hi ≤ 67000000 → 2 * hi - d ≤ 140000000
 root-low hi d h = omega arith
 
 near-low : (lo hi d p : ℕ) → lo ≤ hi → hi ≤ 67000000 → d ≤ 6000000 → max (2 * hi - d) (min (2 * lo + d) p) ≤ 140000000
 near-low lo hi d p h g l = omega arith
 
-low-root : (b : Box) → Fair b → Low (rootOf b)
-low-root b f =
+pub low-root : {b : Box} → Fair b → Low (rootOf b)
+low-root {b} f =
     record {
       low-u = root-low (b .hu .0) (diamOf b) (f .u-high);
       low-v = root-low (b .hv .0) (diamOf b) (f .v-high);
     }
 
-low-near : (b : Box) (p : Spot) → Fair b → Low (nearestOf b p)
-low-near b p f =
+pub low-near : {b : Box} (p : Spot) → Fair b → Low (nearestOf b p)
+low-near {b} p f =
     record {
       low-u = near-low (b .lu .0) (b .hu .0) (diamOf b) (p .u .0) (f .u-up) (f .u-high) (fair-diam f);
       low-v = near-low (b .lv .0) (b .hv .0) (diamOf b) (p .v .0) (f .v-up) (f .v-high) (fair-diam f);
     }
 
-pub lows : (n : ℕ) (bs : List Box) (ps : List ℕ) (ss : List Spot) → Fairs (2 * n - 1) bs → Spots n bs ps 0 ss → Lows (2 * n - 1) ss
-lows n bs ps ss f made k h =
-    ⊎-elim
-    (λ g. rw (made .next k (omega arith) g) (low-near (getD bs k middle) _ (f k h)))
-    (λ g. let q : k ≡ 2 * n - 2 = omega arith in rw (q, made .root) (low-root (getD bs (2 * n - 2) middle) (f (2 * n - 2) (omega arith))))
-    (or-lt k (2 * n - 2))
+-- ---- what two buffers hold
+module _ {us vs : List ℤ} {k : ℕ} where
+  pub spot-is : {p : Spot} → Holds us vs k p → spotAt us vs k ≡ p
+  spot-is {p} h = λ i. record { u = (ap raised (h .holds-u) ∙ raised-lowered (p .u .0)) i; v = (ap raised (h .holds-v) ∙ raised-lowered (p .v .0)) i }
+
+  holds-own : {p : Spot} → Holds us vs k p → Holds us vs k (spotAt us vs k)
+  holds-own {p} h = subst (Holds us vs k) (sym (spot-is h)) h
+
+-- the buffers after, which hold the same for node k
+module _ (us vs us′ vs′ : List ℤ) (k : ℕ) (a : getD us′ k (pos 0) ≡ getD us k (pos 0)) (b : getD vs′ k (pos 0) ≡ getD vs k (pos 0)) where
+  same-spot : spotAt us vs k ≡ spotAt us′ vs′ k
+  same-spot = λ i. record { u = ap raised (sym a) i; v = ap raised (sym b) i }
+
+  same-holds : {p : Spot} → Holds us vs k p → Holds us′ vs′ k p
+  same-holds h = record { holds-u = a ∙ h .holds-u; holds-v = b ∙ h .holds-v; low = h .low }
+
+module _ {k : ℕ} {p : Spot} {us vs us′ vs′ : List ℤ} (w : PutsSpot k p us vs us′ vs′) where
+  put-here : Low p → Has us vs k → Holds us′ vs′ k p
+  put-here l h =
+      record {
+        holds-u = rw (w .writes-u) (getD-set-same us k (lowered (p .u .0)) (pos 0) (h .0));
+        holds-v = rw (w .writes-v) (getD-set-same vs k (lowered (p .v .0)) (pos 0) (h .1));
+        low = l;
+      }
+
+  other-u : (i : ℕ) → (i ≡ k → ⊥) → getD us′ i (pos 0) ≡ getD us i (pos 0)
+  other-u i r = rw (w .writes-u) (getD-set-other us k i (lowered (p .u .0)) (pos 0) r)
+
+  other-v : (i : ℕ) → (i ≡ k → ⊥) → getD vs′ i (pos 0) ≡ getD vs i (pos 0)
+  other-v i r = rw (w .writes-v) (getD-set-other vs k i (lowered (p .v .0)) (pos 0) r)
+
+-- ---- the joins
+module _ {n : ℕ} {bs ps : List ℕ} where
+  pub spots-hold : {m : ℕ} {us vs : List ℤ} → Spots n bs ps m us vs → (k : ℕ) → m ≤ k → k < 2 * n - 1 → Holds us vs k (spotAt us vs k)
+  spots-hold {m} {us} {vs} w k h g =
+      ⊎-elim
+      (λ l. holds-own (w .next k h l))
+      (λ l. let e : 2 * n - 2 ≡ k = omega arith in rw e at (holds-own (w .root)))
+      (or-lt k (2 * n - 2))
+
+  pub down-begin : {ds : List ℕ} {us vs us′ vs′ : List ℤ} → Sized n bs ds ps → 2 * n - 1 ≤ length us → 2 * n - 1 ≤ length vs → PutsSpot (2 * n - 2) (rootOf (boxAt bs (2 * n - 2))) us vs us′ vs′ → PutsDown n bs ps (2 * n - 2) us vs us′ vs′
+  down-begin {ds} {us} {vs} {us′} {vs′} z h g w =
+      let some = z .some in
+      record {
+        spots = record { root = put-here w (low-root (z .fair (2 * n - 2) (omega arith))) (omega arith, omega arith); next = λ k a b. absurd (omega arith) };
+        kept-u = λ k l. other-u w k (λ e. omega arith);
+        kept-v = λ k l. other-v w k (λ e. omega arith);
+      }
+
+  pub down-again : {m : ℕ} {old-u old-v us vs : List ℤ} → PutsDown n bs ps m old-u old-v us vs → PutsDown n bs ps m us vs us vs
+  down-again w = record { spots = w .spots; kept-u = λ k h. refl; kept-v = λ k h. refl }
+
+  pub down-more : {k : ℕ} {old-u old-v us vs us′ vs′ : List ℤ} (p : ℕ) → p ≡ getD ps (k - 1) 0 → 0 < k → k ≤ 2 * n - 2 → Rising n ps → Fair (boxAt bs (k - 1)) → Has us vs (k - 1) → PutsDown n bs ps k old-u old-v us vs
+      → PutsSpot (k - 1) (nearestOf (boxAt bs (k - 1)) (spotAt us vs p)) us vs us′ vs′ → PutsDown n bs ps (k - 1) old-u old-v us′ vs′
+  down-more {k} {old-u} {old-v} {us} {vs} {us′} {vs′} p z h g rise f has made w =
+      record {
+        spots = record { root = kept (2 * n - 2) (omega arith) (made .spots .root); next = λ i a b. go i a b };
+        kept-u = λ i l. other-u w i (λ e. omega arith) ∙ made .kept-u i l;
+        kept-v = λ i l. other-v w i (λ e. omega arith) ∙ made .kept-v i l;
+      }
+    where
+      kept : (i : ℕ) → k ≤ i → {q : Spot} → Holds us vs i q → Holds us′ vs′ i q
+      kept i l {q} y = same-holds us vs us′ vs′ i (other-u w i (λ e. omega arith)) (other-v w i (λ e. omega arith)) y
+
+      here : Holds us′ vs′ (k - 1) (nearestOf (boxAt bs (k - 1)) (spotAt us vs (getD ps (k - 1) 0)))
+      here = subst (λ (j : ℕ). Holds us′ vs′ (k - 1) (nearestOf (boxAt bs (k - 1)) (spotAt us vs j))) z (put-here w (low-near (spotAt us vs p) f) has)
+
+      -- a parent's place stays
+      above : (i : ℕ) → k - 1 ≤ i → i < 2 * n - 2 → Holds us′ vs′ i (nearestOf (boxAt bs i) (spotAt us vs (getD ps i 0))) → Holds us′ vs′ i (nearestOf (boxAt bs i) (spotAt us′ vs′ (getD ps i 0)))
+      above i a b y =
+          let r = rise i b .0 in
+          subst (λ (q : Spot). Holds us′ vs′ i (nearestOf (boxAt bs i) q)) (same-spot us vs us′ vs′ (getD ps i 0) (other-u w (getD ps i 0) (λ e. omega arith)) (other-v w (getD ps i 0) (λ e. omega arith))) y
+
+      go : (i : ℕ) → k - 1 ≤ i → i < 2 * n - 2 → Holds us′ vs′ i (nearestOf (boxAt bs i) (spotAt us′ vs′ (getD ps i 0)))
+      go i a b =
+          ⊎-elim
+          (λ l. let e : k - 1 ≡ i = omega arith in above i a b (rw e at here))
+          (λ l. above i a b (kept i l (made .spots .next i l b)))
+          (or-lt i k)
+
+  pub down-done : {k m : ℕ} {old-u old-v mid-u mid-v us vs : List ℤ} → k ≤ n → PutsDown n bs ps m old-u old-v mid-u mid-v → PutsDown n bs ps k mid-u mid-v us vs → PutsDown n bs ps n old-u old-v us vs
+  down-done {k} {m} h a b =
+      record {
+        spots = record { root = b .spots .root; next = λ i l. b .spots .next i (omega arith) };
+        kept-u = λ i l. b .kept-u i l ∙ a .kept-u i l;
+        kept-v = λ i l. b .kept-v i l ∙ a .kept-v i l;
+      }
+
+-- node k can be read and written
+pub open-at : {n : ℕ} {bs ds ps : List ℕ} {us vs : List ℤ} (k : ℕ) → Sized n bs ds ps → 2 * n - 1 ≤ length us → 2 * n - 1 ≤ length vs → k < 2 * n - 1 → Open k bs ds us vs
+open-at k w a b h =
+    record {
+      boxed = omega (arith, w .room .boxes);
+      measured = omega (arith, w .room .diameters);
+      has = (omega arith, omega arith);
+      fair = w .fair k h;
+      size = w .sized k h;
+    }
+
+-- ---- the sinks
+point-near : (a d p : ℕ) → d ≡ 0 → max (2 * a - d) (min (2 * a + d) p) ≡ 2 * a - d
+point-near a d p e = omega arith
+
+sink-near : (x y : ℤ) (p : Spot) → rootOf (sinkBox x y) ≡ nearestOf (sinkBox x y) p
+sink-near x y p = λ i. record {
+  u = record { 0 = sym (point-near (sinkBox x y .hu .0) (diamOf (sinkBox x y)) (p .u .0) (sink-diam x y)) i };
+  v = record { 0 = sym (point-near (sinkBox x y .hv .0) (diamOf (sinkBox x y)) (p .v .0) (sink-diam x y)) i };
+}
+
+module _ {xs ys : List ℤ} where
+  pub sinks-begin : {us vs : List ℤ} → PutsSinks xs ys 0 us vs us vs
+  sinks-begin = record { own = λ k h. absurd (omega arith); kept-u = λ k h. refl; kept-v = λ k h. refl }
+
+  pub sinks-more : {k : ℕ} {b : Box} {p : Spot} {old-u old-v us vs us′ vs′ : List ℤ} → Ranged xs ys → k < length xs → Covers (sinksAt xs ys) (k ∷ []) b → p ≡ rootOf b → Has us vs k → PutsSinks xs ys k old-u old-v us vs
+      → PutsSpot k p us vs us′ vs′ → PutsSinks xs ys (k + 1) old-u old-v us′ vs′
+  sinks-more {k} {b} {p} {old-u} {old-v} {us} {vs} {us′} {vs′} r h c e has made w =
+      record {
+        own = λ i l. ⊎-elim (λ g. same-holds us vs us′ vs′ i (other-u w i (λ q. omega arith)) (other-v w i (λ q. omega arith)) (made .own i g)) (λ g. let q : k ≡ i = omega arith in rw q at here) (or-lt i k);
+        kept-u = λ i l. other-u w i (λ q. omega arith) ∙ made .kept-u i (omega arith);
+        kept-v = λ i l. other-v w i (λ q. omega arith) ∙ made .kept-v i (omega arith);
+      }
+    where
+      here : Holds us′ vs′ k (rootOf (sinkBox (getD xs k (pos 0)) (getD ys k (pos 0))))
+      here = subst (Holds us′ vs′ k) (e ∙ ap rootOf (sink-is xs ys r k h b c)) (put-here w (subst Low (sym e) (low-root (c .fair))) has)
+
+  -- with the sinks, all nodes have their places
+  pub spots-all : {bs ps : List ℕ} {us vs us′ vs′ : List ℤ} → Rising (length xs) ps → ((k : ℕ) → k < length xs → boxAt bs k ≡ sinkBox (getD xs k (pos 0)) (getD ys k (pos 0)))
+      → Spots (length xs) bs ps (length xs) us vs → PutsSinks xs ys (length xs) us vs us′ vs′ → Spots (length xs) bs ps 0 us′ vs′
+  spots-all {bs} {ps} {us} {vs} {us′} {vs′} rise point made w =
+      record {
+        root = ⊎-elim (λ g. own (2 * length xs - 2) g) (λ g. kept (2 * length xs - 2) g (made .root)) (or-lt (2 * length xs - 2) (length xs));
+        next = λ k h l. ⊎-elim (λ g. near k g (spotAt us′ vs′ (getD ps k 0))) (λ g. above k g l (kept k g (made .next k g l))) (or-lt k (length xs));
+      }
+    where
+      own : (k : ℕ) → k < length xs → Holds us′ vs′ k (rootOf (boxAt bs k))
+      own k g = subst (λ (b : Box). Holds us′ vs′ k (rootOf b)) (sym (point k g)) (w .own k g)
+
+      near : (k : ℕ) → k < length xs → (p : Spot) → Holds us′ vs′ k (nearestOf (boxAt bs k) p)
+      near k g p = subst (λ (b : Box). Holds us′ vs′ k (nearestOf b p)) (sym (point k g)) (subst (Holds us′ vs′ k) (sink-near (getD xs k (pos 0)) (getD ys k (pos 0)) p) (w .own k g))
+
+      kept : (k : ℕ) → length xs ≤ k → {p : Spot} → Holds us vs k p → Holds us′ vs′ k p
+      kept k g {p} z = same-holds us vs us′ vs′ k (w .kept-u k g) (w .kept-v k g) z
+
+      above : (k : ℕ) → length xs ≤ k → k < 2 * length xs - 2 → Holds us′ vs′ k (nearestOf (boxAt bs k) (spotAt us vs (getD ps k 0))) → Holds us′ vs′ k (nearestOf (boxAt bs k) (spotAt us′ vs′ (getD ps k 0)))
+      above k g l z =
+          let r = rise k l .0 in
+          subst (λ (q : Spot). Holds us′ vs′ k (nearestOf (boxAt bs k) q)) (same-spot us vs us′ vs′ (getD ps k 0) (w .kept-u (getD ps k 0) (omega arith)) (w .kept-v (getD ps k 0) (omega arith))) z

@@ -23,7 +23,7 @@ use Rattle.embedding.specs.Joins.{left, right}
 use Rattle.embedding.specs.Sound.{Ordered, Sound}
 use Rattle.embedding.specs.Nodes.{node, below}
 use Rattle.embedding.specs.Table.{boxAt, Puts, Sinked}
-use Rattle.embedding.specs.Flat.{Boxes, Room, Blank, Up, PutsJoin, PutsJoins, Made}
+use Rattle.embedding.specs.Arrays.{Boxes, Room, Blank, Up, PutsJoin, PutsJoins, Made}
 use Rattle.embedding.proofs.Boxing.{puts-each}
 use Rattle.embedding.proofs.Parents.{parents-more, parents-done}
 use Rattle.embedding.proofs.Orders.{sinks-some, below-sink, below-join}

@@ -1,59 +1,74 @@
 -- From what the code's arrays hold to what document 01 says of the whole call.
-use mathlib.Core.Path.{_≡_, refl, ap, _∙_}
+use mathlib.Core.Path.{_≡_, refl, sym, ap, subst, _∙_}
+use mathlib.Core.Logic.{⊎-elim}
 use mathlib.Core.Bool.{Bool, true, false, cond}
 use mathlib.Core.List.{List}
 use Prim.Native.Nat.{ℕ, _+_, _-_, _*_, _≤_, _<_}
 use native.Mathlib.Omega.{arith}
 use borrow.Author.Tests.{ltb-true}
 use lib.Dec.{ltb}
-use lib.ListN.{getD}
-use Rattle.lists.specs.Grow.{tab, sumTo}
-use Rattle.lists.proofs.Grow.{tab-same, sum-same}
+use lib.IntN.{ℤ, pos}
+use lib.ListN.{length, getD, drop, length-append, length-drop, List·getD-append}
+use lib.Seq.{ext-getD, getD-append-add, getD-drop}
+use Rattle.lists.specs.Grow.{tab, front, sumTo}
+use Rattle.lists.proofs.Tests.{or-lt}
+use Rattle.lists.proofs.Grow.{length-grow, getD-tab, tab-same, sum-same}
 use Rattle.zero_skew.specs.Plane.{Sinks, u, v}
-use Rattle.plane.specs.Measures.{lowered}
-use Rattle.plane.specs.Boxes.{diamOf}
+use Rattle.plane.specs.Boxes.{sinkBox, diamOf}
+use Rattle.plane.specs.Sinks.{sinksAt, Ranged}
+use Rattle.plane.specs.Covers.{Covers}
 use Rattle.plane.proofs.Lifted.{unlift}
 use Rattle.plane.proofs.Covering.{fair-diam, covers-diam}
-use Rattle.plane.specs.declared.boxes.Box.{Box}
 use Rattle.plane.specs.declared.segment.Spot.{Spot}
-use Rattle.embedding.specs.Sound.{Ordered}
 use Rattle.embedding.specs.Nodes.{d, below, parent, value, wire}
 use Rattle.embedding.specs.Embedding.{placesU, placesV, wires, total}
-use Rattle.embedding.specs.Arrays.{middle, centre, Boxes, Fairs, Diameters, Parents, Rising, Spots, Longer, Short, wireIn}
+use Rattle.embedding.specs.Table.{boxAt}
+use Rattle.embedding.specs.Arrays.{Fairs, Rising, Made, Longer, Climbs, wireIn}
+use Rattle.embedding.specs.Places.{Sized, spotAt, Spots, PutsDown, PutsSinks}
 use Rattle.embedding.proofs.Parents.{parent-above}
-use Rattle.embedding.proofs.Orders.{rises}
+use Rattle.embedding.proofs.Orders.{below-sink, rises}
+use Rattle.embedding.proofs.Upward.{sink-is}
 use Rattle.embedding.proofs.Lifting.{value-lifts}
+use Rattle.embedding.proofs.Spots.{spot-is, spots-hold, spots-all}
 
--- the arrays, and what they hold
-pub record Made (s : Sinks) (js : List ℕ) (bs : List Box) (ds ps : List ℕ) : Type 0 where
-  pub ordered : Ordered (s .n) js
-  pub boxed : Boxes s js (2 * s .n - 1) bs
-  pub sized : Diameters (2 * s .n - 1) bs ds
-  pub named : Parents (s .n) js ps
-
-module _ {s : Sinks} {js : List ℕ} {bs : List Box} {ds ps : List ℕ} (m : Made s js bs ds ps) where
+module _ {s : Sinks} {js bs ds ps : List ℕ} (m : Made s js bs ds ps) where
   abbrev n : ℕ
   n = s .n
 
-  pub fairs : Fairs (2 * n - 1) bs
+  fairs : Fairs (2 * n - 1) bs
   fairs k h = m .boxed k h .fair
 
-  pub rising : Rising n ps
+  rising : Rising n ps
   rising k h = rw (m .named k h) (parent-above n js (m .ordered) k h)
 
-  diam-is : (k : ℕ) → k < 2 * n - 1 → diamOf (getD bs k middle) ≡ d s js k
-  diam-is k h = covers-diam s (below n js k) (getD bs k middle) (m .boxed k h)
+  diam-is : (k : ℕ) → k < 2 * n - 1 → diamOf (boxAt bs k) ≡ d s js k
+  diam-is k h = covers-diam s (below n js k) (boxAt bs k) (m .boxed k h)
 
   size-is : (k : ℕ) → k < 2 * n - 1 → getD ds k 0 ≡ d s js k
   size-is k h = m .sized k h ∙ diam-is k h
 
-  pub short : Short (2 * n - 1) ds
+  pub short : (k : ℕ) → k < 2 * n - 1 → getD ds k 0 ≤ 6000000
   short k h = rw (m .sized k h) (fair-diam (fairs k h))
 
-  pub longer : Longer n ds ps
+  longer : Longer n ds ps
   longer k h =
       let a = parent-above n js (m .ordered) k h in
       rw (m .named k h, size-is k (omega arith), size-is (parent n js k) (omega arith)) (rises s js (m .ordered) k h)
+
+  -- what the places are found from, and the wires
+  pub all-sized : Sized n bs ds ps
+  all-sized = record { some = m .ordered .some; few = m .ordered .few; room = m .room; fair = fairs; sized = m .sized; rising = rising }
+
+  pub climbs : Climbs n ds ps
+  climbs =
+      record {
+        some = m .ordered .some;
+        few = m .ordered .few;
+        diameters = m .room .diameters;
+        parents = m .room .parents;
+        rising = rising;
+        longer = longer;
+      }
 
   wire-is : (k : ℕ) → wireIn n ds ps k ≡ wire s js k
   wire-is k = go (ltb k (2 * n - 2)) refl
@@ -73,32 +88,67 @@ module _ {s : Sinks} {js : List ℕ} {bs : List Box} {ds ps : List ℕ} (m : Mad
       let o = m .ordered .some in
       rw (sum-same (λ i. getD ds (n + i) 0) (λ i. d s js (n + i)) (n - 1) (λ i h. size-is (n + i) (omega arith)), size-is (2 * n - 2) (omega arith))
 
-  module _ (ss : List Spot) (placed : Spots n bs ps 0 ss) where
+  module _ {us vs : List ℤ} (w : Spots n bs ps 0 us vs) where
     fit : (k x : ℕ) → k < 2 * n - 1 → 61000000 ≤ x → d s js k ≤ 2 * x
     fit k x h l = omega (arith, fair-diam (fairs k h), diam-is k h)
 
-    pub us-are : tab (λ k. lowered (getD ss k centre .u .0)) (2 * n - 1) ≡ placesU s js
-    us-are =
-        let o = m .ordered .some in
-        tab-same (λ k. lowered (getD ss k centre .u .0)) (value s (u s) js) (2 * n - 1)
-        (λ k h. unlift 128000000 (value s (u s) js k) (getD ss k centre .u .0)
-        (value-lifts s js (m .ordered) (u s) (λ i. getD bs i middle .lu .0) (λ i. getD bs i middle .hu .0) (λ i. getD ss i centre .u .0)
+    u-is : (k : ℕ) → k < 2 * n - 1 → getD us k (pos 0) ≡ value s (u s) js k
+    u-is k h =
+        spots-hold w k (omega arith) h .holds-u
+        ∙ unlift 128000000 (value s (u s) js k) (spotAt us vs k .u .0)
+        (value-lifts s js (m .ordered) (u s) (λ i. boxAt bs i .lu .0) (λ i. boxAt bs i .hu .0) (λ i. spotAt us vs i .u .0)
         (λ i g. m .boxed i g .least-u)
         (λ i g. m .boxed i g .most-u)
-        (λ i g. fit i (getD bs i middle .hu .0) g (omega (arith, fairs i g .u-low, fairs i g .u-up)))
-        (ap (λ (p : Spot). p .u .0) (placed .root) ∙ rw (diam-is (2 * n - 2) (omega arith)))
-        (λ i g. ap (λ (p : Spot). p .u .0) (placed .next i (omega arith) g) ∙ rw (diam-is i (omega arith), m .named i g))
-        k h))
+        (λ i g. fit i (boxAt bs i .hu .0) g (omega (arith, fairs i g .u-low, fairs i g .u-up)))
+        (ap (λ (p : Spot). p .u .0) (spot-is (w .root)) ∙ rw (diam-is (2 * n - 2) (omega arith)))
+        (λ i g. ap (λ (p : Spot). p .u .0) (spot-is (w .next i (omega arith) g)) ∙ rw (diam-is i (omega arith), m .named i g))
+        k h)
 
-    pub vs-are : tab (λ k. lowered (getD ss k centre .v .0)) (2 * n - 1) ≡ placesV s js
-    vs-are =
-        let o = m .ordered .some in
-        tab-same (λ k. lowered (getD ss k centre .v .0)) (value s (v s) js) (2 * n - 1)
-        (λ k h. unlift 128000000 (value s (v s) js k) (getD ss k centre .v .0)
-        (value-lifts s js (m .ordered) (v s) (λ i. getD bs i middle .lv .0) (λ i. getD bs i middle .hv .0) (λ i. getD ss i centre .v .0)
+    v-is : (k : ℕ) → k < 2 * n - 1 → getD vs k (pos 0) ≡ value s (v s) js k
+    v-is k h =
+        spots-hold w k (omega arith) h .holds-v
+        ∙ unlift 128000000 (value s (v s) js k) (spotAt us vs k .v .0)
+        (value-lifts s js (m .ordered) (v s) (λ i. boxAt bs i .lv .0) (λ i. boxAt bs i .hv .0) (λ i. spotAt us vs i .v .0)
         (λ i g. m .boxed i g .least-v)
         (λ i g. m .boxed i g .most-v)
-        (λ i g. fit i (getD bs i middle .hv .0) g (omega (arith, fairs i g .v-low, fairs i g .v-up)))
-        (ap (λ (p : Spot). p .v .0) (placed .root) ∙ rw (diam-is (2 * n - 2) (omega arith)))
-        (λ i g. ap (λ (p : Spot). p .v .0) (placed .next i (omega arith) g) ∙ rw (diam-is i (omega arith), m .named i g))
-        k h))
+        (λ i g. fit i (boxAt bs i .hv .0) g (omega (arith, fairs i g .v-low, fairs i g .v-up)))
+        (ap (λ (p : Spot). p .v .0) (spot-is (w .root)) ∙ rw (diam-is (2 * n - 2) (omega arith)))
+        (λ i g. ap (λ (p : Spot). p .v .0) (spot-is (w .next i (omega arith) g)) ∙ rw (diam-is i (omega arith), m .named i g))
+        k h)
+
+-- a buffer whose first m entries are those that g makes, and whose others stayed
+front-is : {A : Type 0} (g : ℕ → A) (m : ℕ) (a : A) (old new : List A) → length new ≡ length old → m ≤ length old
+    → ((k : ℕ) → k < m → getD new k a ≡ g k) → ((k : ℕ) → m ≤ k → getD new k a ≡ getD old k a) → new ≡ front (tab g m) old
+front-is {A} g m a old new e h made kept = ext-getD a new (front (tab g m) old) (sym sized) each
+  where
+    long : length (tab g m) ≡ m
+    long = length-grow (λ l. g (length l)) m
+
+    sized : length (front (tab g m) old) ≡ length new
+    sized = rw (length-append (tab g m) (drop (length (tab g m)) old), length-drop (length (tab g m)) old) (omega (arith, long))
+
+    each : (k : ℕ) → k < length new → getD new k a ≡ getD (front (tab g m) old) k a
+    each k l =
+        ⊎-elim
+        (λ b. made k b ∙ sym (List·getD-append (tab g m) (drop (length (tab g m)) old) a k (omega (arith, long)) ∙ getD-tab g m k a b))
+        (λ b.
+        let i : length (tab g m) + (k - m) ≡ k = omega (arith, long) in
+        kept k b ∙ sym (ap (λ (j : ℕ). getD (front (tab g m) old) j a) (sym i) ∙ getD-append-add (tab g m) (drop (length (tab g m)) old) (k - m) a ∙ getD-drop (length (tab g m)) old (k - m) a ∙ ap (λ (j : ℕ). getD old j a) i))
+        (or-lt k m)
+
+-- the buffers before, after the joins, and after the sinks
+pub places-are : {xs ys : List ℤ} {js bs ds ps : List ℕ} {us vs mid-u mid-v us′ vs′ : List ℤ} → Ranged xs ys → Made (sinksAt xs ys) js bs ds ps
+    → 2 * length xs - 1 ≤ length us → 2 * length xs - 1 ≤ length vs → length us′ ≡ length us → length vs′ ≡ length vs
+    → PutsDown (length xs) bs ps (length xs) us vs mid-u mid-v → PutsSinks xs ys (length xs) mid-u mid-v us′ vs′
+    → (us′ ≡ front (placesU (sinksAt xs ys) js) us) × (vs′ ≡ front (placesV (sinksAt xs ys) js) vs)
+places-are {xs} {ys} {js} {bs} {ds} {ps} {us} {vs} {mid-u} {mid-v} {us′} {vs′} r m a b p q down own =
+    let s = sinksAt xs ys in
+    let all : Spots (length xs) bs ps 0 us′ vs′ = spots-all (rising m) point (down .spots) own in (
+      front-is (value s (u s) js) (2 * length xs - 1) (pos 0) us us′ p a (u-is m all) (λ k h. own .kept-u k (omega arith) ∙ down .kept-u k h),
+      front-is (value s (v s) js) (2 * length xs - 1) (pos 0) vs vs′ q b (v-is m all) (λ k h. own .kept-v k (omega arith) ∙ down .kept-v k h),
+    )
+  where
+    point : (k : ℕ) → k < length xs → boxAt bs k ≡ sinkBox (getD xs k (pos 0)) (getD ys k (pos 0))
+    point k h =
+        sink-is xs ys r k h (boxAt bs k)
+        (subst (λ (l : List ℕ). Covers (sinksAt xs ys) l (boxAt bs k)) (below-sink (length xs) js (m .ordered) k h) (m .boxed k (omega arith)))

@@ -2,34 +2,27 @@
 use mathlib.Core.Path.{_≡_}
 use mathlib.Core.Bool.{cond}
 use mathlib.Core.List.{List}
-use Prim.Native.Nat.{ℕ, _-_, _*_, _≤_, _<_}
+use Prim.Native.Nat.{ℕ, _+_, _-_, _*_, _/_, _≤_, _<_}
 use lib.Dec.{ltb}
-use lib.IntN.{pos}
-use lib.ListN.{getD}
+use lib.ListN.{length, getD, set}
+use Rattle.lists.specs.Grow.{sumTo}
 use Rattle.zero_skew.specs.Plane.{Sinks}
-use Rattle.plane.specs.Boxes.{sinkBox, diamOf, Fair}
-use Rattle.plane.specs.Spots.{rootOf, nearestOf}
+use Rattle.plane.specs.Boxes.{hullOf, diamOf, Fair}
 use Rattle.plane.specs.Covers.{Covers}
-use Rattle.plane.specs.declared.boxes.Box.{Box}
-use Rattle.plane.specs.declared.segment.Spot.{Spot}
+use Rattle.embedding.specs.Joins.{left, right}
 use Rattle.embedding.specs.Nodes.{below, parent}
-
--- the box and the place of the grid's centre, which stand for what is not there
-abbrev pub middle : Box
-middle = sinkBox (pos 0) (pos 0)
-
-abbrev pub centre : Spot
-centre = rootOf middle
+use Rattle.embedding.specs.Sound.{Ordered}
+use Rattle.embedding.specs.Table.{boxAt}
 
 -- the boxes of the first m nodes
-abbrev pub Boxes : Sinks → List ℕ → ℕ → List Box → Type 0
-Boxes s js m bs = (k : ℕ) → k < m → Covers s (below (s .n) js k) (getD bs k middle)
+abbrev pub Boxes : Sinks → List ℕ → ℕ → List ℕ → Type 0
+Boxes s js m bs = (k : ℕ) → k < m → Covers s (below (s .n) js k) (boxAt bs k)
 
-abbrev pub Fairs : ℕ → List Box → Type 0
-Fairs m bs = (k : ℕ) → k < m → Fair (getD bs k middle)
+abbrev pub Fairs : ℕ → List ℕ → Type 0
+Fairs m bs = (k : ℕ) → k < m → Fair (boxAt bs k)
 
-abbrev pub Diameters : ℕ → List Box → List ℕ → Type 0
-Diameters m bs ds = (k : ℕ) → k < m → getD ds k 0 ≡ diamOf (getD bs k middle)
+abbrev pub Diameters : ℕ → List ℕ → List ℕ → Type 0
+Diameters m bs ds = (k : ℕ) → k < m → getD ds k 0 ≡ diamOf (boxAt bs k)
 
 abbrev pub Parents : ℕ → List ℕ → List ℕ → Type 0
 Parents n js ps = (k : ℕ) → k < 2 * n - 2 → getD ps k 0 ≡ parent n js k
@@ -38,25 +31,57 @@ Parents n js ps = (k : ℕ) → k < 2 * n - 2 → getD ps k 0 ≡ parent n js k
 abbrev pub Rising : ℕ → List ℕ → Type 0
 Rising n ps = (k : ℕ) → k < 2 * n - 2 → (k < getD ps k 0) × (getD ps k 0 ≤ 2 * n - 2)
 
--- the places of the root and of the nodes from m on
-pub record Spots (n : ℕ) (bs : List Box) (ps : List ℕ) (m : ℕ) (ss : List Spot) : Type 0 where
-  pub root : getD ss (2 * n - 2) centre ≡ rootOf (getD bs (2 * n - 2) middle)
-  pub next : (k : ℕ) → m ≤ k → k < 2 * n - 2 → getD ss k centre ≡ nearestOf (getD bs k middle) (getD ss (getD ps k 0) centre)
+-- room for the nodes of n sinks
+pub record Room (n : ℕ) (bs ds ps : List ℕ) : Type 0 where
+  pub boxes : 4 * (2 * n - 1) ≤ length bs
+  pub diameters : 2 * n - 1 ≤ length ds
+  pub parents : 2 * n - 1 ≤ length ps
 
--- places that fit a signed number
-pub record Low (p : Spot) : Type 0 where
-  pub low-u : p .u .0 ≤ 140000000
-  pub low-v : p .v .0 ≤ 140000000
+-- a cleared list: no sink has a diameter
+abbrev pub Blank : ℕ → List ℕ → Type 0
+Blank n ds = (k : ℕ) → k < n → getD ds k 0 ≡ 0
 
-abbrev pub Lows : ℕ → List Spot → Type 0
-Lows m ss = (k : ℕ) → k < m → Low (getD ss k centre)
+-- the nodes of n sinks and of the first i joins are in the arrays
+pub record Up (n : ℕ) (js : List ℕ) (i : ℕ) (bs ds ps : List ℕ) : Type 0 where
+  pub room : Room n bs ds ps
+  pub fair : Fairs (n + i) bs
+  pub sized : Diameters (n + i) bs ds
+  pub hulls : (j : ℕ) → j < i → boxAt bs (n + j) ≡ hullOf (boxAt bs (left js j)) (boxAt bs (right js j))
+  pub named : (j : ℕ) → j < 2 * i → getD ps (getD js j 0) 0 ≡ n + j / 2
+
+-- join i is put: its diameter, and the arrays before and after
+pub record PutsJoin (n : ℕ) (js : List ℕ) (i : ℕ) (bs ds : List ℕ) (d : ℕ) (bs′ ds′ ps′ : List ℕ) : Type 0 where
+  pub up : Up n js (i + 1) bs′ ds′ ps′
+  pub before : (k : ℕ) → k < n + i → boxAt bs′ k ≡ boxAt bs k
+  pub adds : ds′ ≡ set ds (n + i) d
+
+-- the first i joins are put: the boxes of the sinks before, the sum of the diameters, and the arrays after
+pub record PutsJoins (n : ℕ) (js : List ℕ) (i : ℕ) (bs : List ℕ) (sum : ℕ) (bs′ ds′ ps′ : List ℕ) : Type 0 where
+  pub up : Up n js i bs′ ds′ ps′
+  pub sinks : (k : ℕ) → k < n → boxAt bs′ k ≡ boxAt bs k
+  pub sums : sum ≡ sumTo (λ j. getD ds′ (n + j) 0) i
+  pub low : sum ≤ 6000000 * i
+
+-- the arrays of all nodes
+pub record Made (s : Sinks) (js : List ℕ) (bs ds ps : List ℕ) : Type 0 where
+  pub ordered : Ordered (s .n) js
+  pub room : Room (s .n) bs ds ps
+  pub boxed : Boxes s js (2 * s .n - 1) bs
+  pub sized : Diameters (2 * s .n - 1) bs ds
+  pub named : Parents (s .n) js ps
 
 -- no parent has a smaller diameter
 abbrev pub Longer : ℕ → List ℕ → List ℕ → Type 0
 Longer n ds ps = (k : ℕ) → k < 2 * n - 2 → getD ds k 0 ≤ getD ds (getD ps k 0) 0
 
-abbrev pub Short : ℕ → List ℕ → Type 0
-Short m ds = (k : ℕ) → k < m → getD ds k 0 ≤ 6000000
+-- what the wires are written from
+pub record Climbs (n : ℕ) (ds ps : List ℕ) : Type 0 where
+  pub some : 0 < n
+  pub few : n ≤ 512
+  pub diameters : 2 * n - 1 ≤ length ds
+  pub parents : 2 * n - 1 ≤ length ps
+  pub rising : Rising n ps
+  pub longer : Longer n ds ps
 
 abbrev pub wireIn : ℕ → List ℕ → List ℕ → ℕ → ℕ
 wireIn n ds ps k = cond (ltb k (2 * n - 2)) (getD ds (getD ps k 0) 0 - getD ds k 0) 0

@@ -1,4 +1,4 @@
--- Embedding a joining order. For a reader: Joins, Nodes, Embedding, Permitted, Described. For the code alone: Sound, Table, Arrays.
+-- Embedding a joining order. For a reader: Joins, Nodes, Embedding, Permitted, Described. For the code alone: Sound, Table, Arrays, Places.
 pub mod Joins
 pub mod Nodes
 pub mod Embedding
@@ -7,4 +7,4 @@ pub mod Described
 pub mod Sound
 pub mod Table
 pub mod Arrays
-pub mod Flat
+pub mod Places

@@ -1,5 +1,8 @@
 // Embedding a joining order.
+ghost use Prim.Native.Nat.{_≤_};
+ghost use lib.ListN.{length};
 ghost use Rattle.embedding.specs.Sound.{Ready, Embeds};
+ghost use Rattle.embedding.specs.Arrays.{Room, Blank};
 ghost use Rattle.embedding.specs.Permitted.{Permitted};
 use crate::check;
 use crate::nodes;
@@ -14,6 +17,47 @@ pub enum Embedded {
     NoTree(Refusal),
 }
 
+// The same as `embed_sound`, in lent arrays: boxes, diameters, which are cleared, and parents.
+fn embed_in(
+    xs: &[i32],
+    ys: &[i32],
+    js: &[u16],
+    us: &mut [i32],
+    vs: &mut [i32],
+    ws: &mut [u32],
+    bs: &mut [u32],
+    ds: &mut [u32],
+    ps: &mut [u16],
+) -> u32
+    requires { ⌜ Ready (now xs) (now ys) (now js) (now us) (now vs) (now ws) × Room (length (now xs)) (now bs) (now ds) (now ps) × Blank (length (now xs)) (now ds) ⌝ }
+    ensures { λ r. ⌜ Embeds (now (xs .entry)) (now (ys .entry)) (now (js .entry)) (now (us .entry)) (now (vs .entry)) (now (ws .entry)) r (now (us .exit)) (now (vs .exit)) (now (ws .exit)) ⌝ }
+{
+    let n = xs.len();
+    let total = nodes::put_nodes(xs, ys, js, bs, ds, ps);
+    places::join_places(bs, ds, ps, n, us, vs);
+    places::sink_places(xs, ys, us, vs);
+    wires::write_wires(ds, ps, n, ws);
+    total
+}
+
+// The same, of at most 12 sinks: to clear arrays for 512 would take longer than to embed them.
+fn embed_few(
+    xs: &[i32],
+    ys: &[i32],
+    js: &[u16],
+    us: &mut [i32],
+    vs: &mut [i32],
+    ws: &mut [u32],
+) -> u32
+    requires { ⌜ Ready (now xs) (now ys) (now js) (now us) (now vs) (now ws) × (length (now xs) ≤ 12) ⌝ }
+    ensures { λ r. ⌜ Embeds (now (xs .entry)) (now (ys .entry)) (now (js .entry)) (now (us .entry)) (now (vs .entry)) (now (ws .entry)) r (now (us .exit)) (now (vs .exit)) (now (ws .exit)) ⌝ }
+{
+    let mut bs = [0u32; 92];
+    let mut ds = [0u32; 23];
+    let mut ps = [0u16; 23];
+    embed_in(xs, ys, js, us, vs, ws, &mut bs, &mut ds, &mut ps)
+}
+
 // The places and the wires of all nodes, and the total, where the sinks and the joins are sound and the buffers have room.
 pub fn embed_sound(
     xs: &[i32],
@@ -26,14 +70,13 @@ pub fn embed_sound(
     requires { ⌜ Ready (now xs) (now ys) (now js) (now us) (now vs) (now ws) ⌝ }
     ensures { λ r. ⌜ Embeds (now (xs .entry)) (now (ys .entry)) (now (js .entry)) (now (us .entry)) (now (vs .entry)) (now (ws .entry)) r (now (us .exit)) (now (vs .exit)) (now (ws .exit)) ⌝ }
 {
-    let n = xs.len();
-    let all = 2 * n - 1;
-    let bs = nodes::node_boxes(xs, ys, js);
-    let ds = nodes::diameters(bs, all);
-    let ps = nodes::parents(js, n);
-    places::write_places(places::spots(bs, ds, ps, n), all, us, vs);
-    wires::write_wires(ds, ps, n, ws);
-    wires::total_wire(ds, n)
+    if xs.len() <= 12 {
+        return embed_few(xs, ys, js, us, vs, ws);
+    }
+    let mut bs = [0u32; 4092];
+    let mut ds = [0u32; 1023];
+    let mut ps = [0u16; 1023];
+    embed_in(xs, ys, js, us, vs, ws, &mut bs, &mut ds, &mut ps)
 }
 
 // Refusals 1 to 4, 6 and 7 in order, else the total, with the places and the wires in the lent buffers.

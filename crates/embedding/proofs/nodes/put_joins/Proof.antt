@@ -3,7 +3,7 @@ use Prim.Native.Nat.{_-_, _≤_, _<_}
 use native.Mathlib.Omega.{arith}
 use borrow.Author.Needs.{needs}
 use lib.ListN.{length}
-use Rattle.embedding.specs.Flat.{PutsJoins}
+use Rattle.embedding.specs.Arrays.{PutsJoins}
 use Rattle.embedding.proofs.Upward.{joins-begin, joins-more}
 use Rattle.embedding.proofs.nodes.put_joins.Statement.{statement}
 use Rattle.embedding.proofs.nodes.put_joins.Tie as tie

@@ -3,7 +3,7 @@ use native.Mathlib.Omega.{arith}
 use denote.Ref.{now}
 use lib.ListN.{length}
 use Rattle.embedding.proofs.Upward.{up-begin, joins-made}
-use Rattle.embedding.proofs.Over.{short, total-is}
+use Rattle.embedding.proofs.Whole.{short, total-is}
 use borrow.Author.Needs.{needs}
 use Rattle.embedding.proofs.nodes.put_nodes.Statement.{statement}
 use Rattle.embedding.proofs.nodes.put_nodes.Tie as tie

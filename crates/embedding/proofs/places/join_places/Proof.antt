@@ -2,8 +2,8 @@ use mathlib.Core.Path.{_≡_, refl, _∙_}
 use Prim.Native.Nat.{_-_, _*_, _≤_, _<_}
 use native.Mathlib.Omega.{arith}
 use lib.ListN.{length}
-use Rattle.embedding.specs.Flat.{PutsDown}
-use Rattle.embedding.proofs.Downward.{spots-hold, down-begin, down-again, down-more, down-done, open-at}
+use Rattle.embedding.specs.Places.{PutsDown}
+use Rattle.embedding.proofs.Spots.{spots-hold, down-begin, down-again, down-more, down-done, open-at}
 use Rattle.embedding.proofs.places.join_places.Statement.{statement}
 use Rattle.embedding.proofs.places.join_places.Tie as tie
 

@@ -5,9 +5,8 @@ use Rattle.plane.specs.Spots.{nearestOf}
 use Rattle.plane.specs.declared.boxes.Box.{Box}
 use Rattle.plane.specs.declared.segment.Spot.{Spot}
 use Rattle.embedding.specs.Table.{boxAt}
-use Rattle.embedding.specs.Arrays.{Low}
-use Rattle.embedding.specs.Flat.{spotAt, PutsSpot}
-use Rattle.embedding.proofs.Downward.{low-near}
+use Rattle.embedding.specs.Places.{Low, spotAt, PutsSpot}
+use Rattle.embedding.proofs.Spots.{low-near}
 use borrow.Author.Needs.{needs}
 use Rattle.embedding.proofs.places.put_near.Statement.{statement}
 use Rattle.embedding.proofs.places.put_near.Tie as tie

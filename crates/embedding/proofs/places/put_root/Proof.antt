@@ -3,9 +3,8 @@ use denote.Ref.{now}
 use Rattle.plane.specs.Boxes.{diamOf, Fair}
 use Rattle.plane.specs.Spots.{rootOf}
 use Rattle.plane.specs.declared.segment.Spot.{Spot}
-use Rattle.embedding.specs.Arrays.{Low}
-use Rattle.embedding.specs.Flat.{PutsSpot}
-use Rattle.embedding.proofs.Downward.{low-root}
+use Rattle.embedding.specs.Places.{Low, PutsSpot}
+use Rattle.embedding.proofs.Spots.{low-root}
 use borrow.Author.Needs.{needs}
 use Rattle.embedding.proofs.places.put_root.Statement.{statement}
 use Rattle.embedding.proofs.places.put_root.Tie as tie

@@ -3,10 +3,9 @@ use Prim.Native.Nat.{_-_, _≤_}
 use native.Mathlib.Omega.{arith}
 use denote.Ref.{now}
 use lib.ListN.{length}
-use Rattle.embedding.specs.Arrays.{Low}
-use Rattle.embedding.specs.Flat.{PutsSinks}
+use Rattle.embedding.specs.Places.{Low, PutsSinks}
 use Rattle.embedding.proofs.Upward.{sink-flat}
-use Rattle.embedding.proofs.Downward.{low-root, sinks-begin, sinks-more}
+use Rattle.embedding.proofs.Spots.{low-root, sinks-begin, sinks-more}
 use Rattle.embedding.proofs.places.sink_places.Statement.{statement}
 use Rattle.embedding.proofs.places.sink_places.Tie as tie
 

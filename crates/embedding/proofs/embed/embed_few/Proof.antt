@@ -1,0 +1,47 @@
+use denote.Ref.{now}
+use Prim.Native.Nat.{_≤_}
+use native.Mathlib.Omega.{arith}
+use lib.ListN.{length, getD-replicate}
+use borrow.Author.Needs.{needs}
+use Rattle.embedding.proofs.embed.embed_few.Statement.{statement}
+use Rattle.embedding.proofs.embed.embed_few.Tie as tie
+
+slice-aggregate-embed-in : tie.Need-slice-aggregate-embed-in
+slice-aggregate-embed-in c = search needs
+
+slice-aggregate-embed-in-2 : tie.Need-slice-aggregate-embed-in-2
+slice-aggregate-embed-in-2 c = search needs
+
+slice-aggregate-embed-in-3 : tie.Need-slice-aggregate-embed-in-3
+slice-aggregate-embed-in-3 c = search needs
+
+embed-in-requires : tie.Need-embed-in-requires
+embed-in-requires c κs =
+    let n = length (now (c .before .before .before .before .before .before .before .before .args .xs)) in
+    let few : n ≤ 12 = c .before .before .before .before .before .before .before .before .pre .1 in
+    (c .before .before .before .before .before .before .before .before .pre .0, record { boxes = omega arith; diameters = omega arith; parents = omega arith }, λ k h. getD-replicate 23 k 0 0 (omega arith))
+
+same-length : tie.Need-same-length
+same-length c = search needs
+
+same-length-2 : tie.Need-same-length-2
+same-length-2 c = search needs
+
+same-length-3 : tie.Need-same-length-3
+same-length-3 c = search needs
+
+returns : tie.Need-returns
+returns c = search needs
+
+pub embed-few-spec : {M : Type 1} → statement M
+embed-few-spec =
+    tie.close
+    (tie.spec
+    slice-aggregate-embed-in
+    slice-aggregate-embed-in-2
+    slice-aggregate-embed-in-3
+    embed-in-requires
+    same-length
+    same-length-2
+    same-length-3
+    returns)
