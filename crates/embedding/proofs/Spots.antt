@@ -18,8 +18,8 @@ use Rattle.plane.proofs.Covering.{fair-diam}
 use Rattle.plane.specs.declared.boxes.Box.{Box}
 use Rattle.plane.specs.declared.segment.Spot.{Spot}
 use Rattle.embedding.specs.Table.{boxAt}
-use Rattle.embedding.specs.Arrays.{Rising, Fairs}
-use Rattle.embedding.specs.Places.{Low, Sized, spotAt, Holds, Has, Open, PutsSpot, Spots, Kept, PutsDown, PutsSinks}
+use Rattle.embedding.specs.Arrays.{Rising}
+use Rattle.embedding.specs.Places.{Low, Sized, spotAt, SpotHeld, Has, Placeable, PutsSpot, Spots, PutsDown, PutsSinks}
 use Rattle.embedding.proofs.Upward.{sink-is, sink-diam}
 
 -- ---- places fit
@@ -45,26 +45,26 @@ low-near {b} p f =
 
 -- ---- what two buffers hold
 module _ {us vs : List ℤ} {k : ℕ} where
-  pub spot-is : {p : Spot} → Holds us vs k p → spotAt us vs k ≡ p
-  spot-is {p} h = λ i. record { u = (ap raised (h .holds-u) ∙ raised-lowered (p .u .0)) i; v = (ap raised (h .holds-v) ∙ raised-lowered (p .v .0)) i }
+  pub spot-is : {p : Spot} → SpotHeld us vs k p → spotAt us vs k ≡ p
+  spot-is {p} h = λ i. record { u = (ap raised (h .held-u) ∙ raised-lowered (p .u .0)) i; v = (ap raised (h .held-v) ∙ raised-lowered (p .v .0)) i }
 
-  holds-own : {p : Spot} → Holds us vs k p → Holds us vs k (spotAt us vs k)
-  holds-own {p} h = subst (Holds us vs k) (sym (spot-is h)) h
+  held-own : {p : Spot} → SpotHeld us vs k p → SpotHeld us vs k (spotAt us vs k)
+  held-own {p} h = subst (SpotHeld us vs k) (sym (spot-is h)) h
 
 -- the buffers after, which hold the same for node k
 module _ (us vs us′ vs′ : List ℤ) (k : ℕ) (a : getD us′ k (pos 0) ≡ getD us k (pos 0)) (b : getD vs′ k (pos 0) ≡ getD vs k (pos 0)) where
   same-spot : spotAt us vs k ≡ spotAt us′ vs′ k
   same-spot = λ i. record { u = ap raised (sym a) i; v = ap raised (sym b) i }
 
-  same-holds : {p : Spot} → Holds us vs k p → Holds us′ vs′ k p
-  same-holds h = record { holds-u = a ∙ h .holds-u; holds-v = b ∙ h .holds-v; low = h .low }
+  same-held : {p : Spot} → SpotHeld us vs k p → SpotHeld us′ vs′ k p
+  same-held h = record { held-u = a ∙ h .held-u; held-v = b ∙ h .held-v; low = h .low }
 
 module _ {k : ℕ} {p : Spot} {us vs us′ vs′ : List ℤ} (w : PutsSpot k p us vs us′ vs′) where
-  put-here : Low p → Has us vs k → Holds us′ vs′ k p
+  put-here : Low p → Has us vs k → SpotHeld us′ vs′ k p
   put-here l h =
       record {
-        holds-u = rw (w .writes-u) (getD-set-same us k (lowered (p .u .0)) (pos 0) (h .0));
-        holds-v = rw (w .writes-v) (getD-set-same vs k (lowered (p .v .0)) (pos 0) (h .1));
+        held-u = rw (w .writes-u) (getD-set-same us k (lowered (p .u .0)) (pos 0) (h .0));
+        held-v = rw (w .writes-v) (getD-set-same vs k (lowered (p .v .0)) (pos 0) (h .1));
         low = l;
       }
 
@@ -76,11 +76,11 @@ module _ {k : ℕ} {p : Spot} {us vs us′ vs′ : List ℤ} (w : PutsSpot k p u
 
 -- ---- the joins
 module _ {n : ℕ} {bs ps : List ℕ} where
-  pub spots-hold : {m : ℕ} {us vs : List ℤ} → Spots n bs ps m us vs → (k : ℕ) → m ≤ k → k < 2 * n - 1 → Holds us vs k (spotAt us vs k)
-  spots-hold {m} {us} {vs} w k h g =
+  pub spots-held : {m : ℕ} {us vs : List ℤ} → Spots n bs ps m us vs → (k : ℕ) → m ≤ k → k < 2 * n - 1 → SpotHeld us vs k (spotAt us vs k)
+  spots-held {m} {us} {vs} w k h g =
       ⊎-elim
-      (λ l. holds-own (w .next k h l))
-      (λ l. let e : 2 * n - 2 ≡ k = omega arith in rw e at (holds-own (w .root)))
+      (λ l. held-own (w .next k h l))
+      (λ l. let e : 2 * n - 2 ≡ k = omega arith in rw e at (held-own (w .root)))
       (or-lt k (2 * n - 2))
 
   pub down-begin : {ds : List ℕ} {us vs us′ vs′ : List ℤ} → Sized n bs ds ps → 2 * n - 1 ≤ length us → 2 * n - 1 ≤ length vs → PutsSpot (2 * n - 2) (rootOf (boxAt bs (2 * n - 2))) us vs us′ vs′ → PutsDown n bs ps (2 * n - 2) us vs us′ vs′
@@ -104,19 +104,19 @@ module _ {n : ℕ} {bs ps : List ℕ} where
         kept-v = λ i l. other-v w i (λ e. omega arith) ∙ made .kept-v i l;
       }
     where
-      kept : (i : ℕ) → k ≤ i → {q : Spot} → Holds us vs i q → Holds us′ vs′ i q
-      kept i l {q} y = same-holds us vs us′ vs′ i (other-u w i (λ e. omega arith)) (other-v w i (λ e. omega arith)) y
+      kept : (i : ℕ) → k ≤ i → {q : Spot} → SpotHeld us vs i q → SpotHeld us′ vs′ i q
+      kept i l {q} y = same-held us vs us′ vs′ i (other-u w i (λ e. omega arith)) (other-v w i (λ e. omega arith)) y
 
-      here : Holds us′ vs′ (k - 1) (nearestOf (boxAt bs (k - 1)) (spotAt us vs (getD ps (k - 1) 0)))
-      here = subst (λ (j : ℕ). Holds us′ vs′ (k - 1) (nearestOf (boxAt bs (k - 1)) (spotAt us vs j))) z (put-here w (low-near (spotAt us vs p) f) has)
+      here : SpotHeld us′ vs′ (k - 1) (nearestOf (boxAt bs (k - 1)) (spotAt us vs (getD ps (k - 1) 0)))
+      here = subst (λ (j : ℕ). SpotHeld us′ vs′ (k - 1) (nearestOf (boxAt bs (k - 1)) (spotAt us vs j))) z (put-here w (low-near (spotAt us vs p) f) has)
 
       -- a parent's place stays
-      above : (i : ℕ) → k - 1 ≤ i → i < 2 * n - 2 → Holds us′ vs′ i (nearestOf (boxAt bs i) (spotAt us vs (getD ps i 0))) → Holds us′ vs′ i (nearestOf (boxAt bs i) (spotAt us′ vs′ (getD ps i 0)))
+      above : (i : ℕ) → k - 1 ≤ i → i < 2 * n - 2 → SpotHeld us′ vs′ i (nearestOf (boxAt bs i) (spotAt us vs (getD ps i 0))) → SpotHeld us′ vs′ i (nearestOf (boxAt bs i) (spotAt us′ vs′ (getD ps i 0)))
       above i a b y =
           let r = rise i b .0 in
-          subst (λ (q : Spot). Holds us′ vs′ i (nearestOf (boxAt bs i) q)) (same-spot us vs us′ vs′ (getD ps i 0) (other-u w (getD ps i 0) (λ e. omega arith)) (other-v w (getD ps i 0) (λ e. omega arith))) y
+          subst (λ (q : Spot). SpotHeld us′ vs′ i (nearestOf (boxAt bs i) q)) (same-spot us vs us′ vs′ (getD ps i 0) (other-u w (getD ps i 0) (λ e. omega arith)) (other-v w (getD ps i 0) (λ e. omega arith))) y
 
-      go : (i : ℕ) → k - 1 ≤ i → i < 2 * n - 2 → Holds us′ vs′ i (nearestOf (boxAt bs i) (spotAt us′ vs′ (getD ps i 0)))
+      go : (i : ℕ) → k - 1 ≤ i → i < 2 * n - 2 → SpotHeld us′ vs′ i (nearestOf (boxAt bs i) (spotAt us′ vs′ (getD ps i 0)))
       go i a b =
           ⊎-elim
           (λ l. let e : k - 1 ≡ i = omega arith in above i a b (rw e at here))
@@ -132,7 +132,7 @@ module _ {n : ℕ} {bs ps : List ℕ} where
       }
 
 -- node k can be read and written
-pub open-at : {n : ℕ} {bs ds ps : List ℕ} {us vs : List ℤ} (k : ℕ) → Sized n bs ds ps → 2 * n - 1 ≤ length us → 2 * n - 1 ≤ length vs → k < 2 * n - 1 → Open k bs ds us vs
+pub open-at : {n : ℕ} {bs ds ps : List ℕ} {us vs : List ℤ} (k : ℕ) → Sized n bs ds ps → 2 * n - 1 ≤ length us → 2 * n - 1 ≤ length vs → k < 2 * n - 1 → Placeable k bs ds us vs
 open-at k w a b h =
     record {
       boxed = omega (arith, w .room .boxes);
@@ -160,13 +160,13 @@ module _ {xs ys : List ℤ} where
       → PutsSpot k p us vs us′ vs′ → PutsSinks xs ys (k + 1) old-u old-v us′ vs′
   sinks-more {k} {b} {p} {old-u} {old-v} {us} {vs} {us′} {vs′} r h c e has made w =
       record {
-        own = λ i l. ⊎-elim (λ g. same-holds us vs us′ vs′ i (other-u w i (λ q. omega arith)) (other-v w i (λ q. omega arith)) (made .own i g)) (λ g. let q : k ≡ i = omega arith in rw q at here) (or-lt i k);
+        own = λ i l. ⊎-elim (λ g. same-held us vs us′ vs′ i (other-u w i (λ q. omega arith)) (other-v w i (λ q. omega arith)) (made .own i g)) (λ g. let q : k ≡ i = omega arith in rw q at here) (or-lt i k);
         kept-u = λ i l. other-u w i (λ q. omega arith) ∙ made .kept-u i (omega arith);
         kept-v = λ i l. other-v w i (λ q. omega arith) ∙ made .kept-v i (omega arith);
       }
     where
-      here : Holds us′ vs′ k (rootOf (sinkBox (getD xs k (pos 0)) (getD ys k (pos 0))))
-      here = subst (Holds us′ vs′ k) (e ∙ ap rootOf (sink-is xs ys r k h b c)) (put-here w (subst Low (sym e) (low-root (c .fair))) has)
+      here : SpotHeld us′ vs′ k (rootOf (sinkBox (getD xs k (pos 0)) (getD ys k (pos 0))))
+      here = subst (SpotHeld us′ vs′ k) (e ∙ ap rootOf (sink-is xs ys r k h b c)) (put-here w (subst Low (sym e) (low-root (c .fair))) has)
 
   -- with the sinks, all nodes have their places
   pub spots-all : {bs ps : List ℕ} {us vs us′ vs′ : List ℤ} → Rising (length xs) ps → ((k : ℕ) → k < length xs → boxAt bs k ≡ sinkBox (getD xs k (pos 0)) (getD ys k (pos 0)))
@@ -177,16 +177,16 @@ module _ {xs ys : List ℤ} where
         next = λ k h l. ⊎-elim (λ g. near k g (spotAt us′ vs′ (getD ps k 0))) (λ g. above k g l (kept k g (made .next k g l))) (or-lt k (length xs));
       }
     where
-      own : (k : ℕ) → k < length xs → Holds us′ vs′ k (rootOf (boxAt bs k))
-      own k g = subst (λ (b : Box). Holds us′ vs′ k (rootOf b)) (sym (point k g)) (w .own k g)
+      own : (k : ℕ) → k < length xs → SpotHeld us′ vs′ k (rootOf (boxAt bs k))
+      own k g = subst (λ (b : Box). SpotHeld us′ vs′ k (rootOf b)) (sym (point k g)) (w .own k g)
 
-      near : (k : ℕ) → k < length xs → (p : Spot) → Holds us′ vs′ k (nearestOf (boxAt bs k) p)
-      near k g p = subst (λ (b : Box). Holds us′ vs′ k (nearestOf b p)) (sym (point k g)) (subst (Holds us′ vs′ k) (sink-near (getD xs k (pos 0)) (getD ys k (pos 0)) p) (w .own k g))
+      near : (k : ℕ) → k < length xs → (p : Spot) → SpotHeld us′ vs′ k (nearestOf (boxAt bs k) p)
+      near k g p = subst (λ (b : Box). SpotHeld us′ vs′ k (nearestOf b p)) (sym (point k g)) (subst (SpotHeld us′ vs′ k) (sink-near (getD xs k (pos 0)) (getD ys k (pos 0)) p) (w .own k g))
 
-      kept : (k : ℕ) → length xs ≤ k → {p : Spot} → Holds us vs k p → Holds us′ vs′ k p
-      kept k g {p} z = same-holds us vs us′ vs′ k (w .kept-u k g) (w .kept-v k g) z
+      kept : (k : ℕ) → length xs ≤ k → {p : Spot} → SpotHeld us vs k p → SpotHeld us′ vs′ k p
+      kept k g {p} z = same-held us vs us′ vs′ k (w .kept-u k g) (w .kept-v k g) z
 
-      above : (k : ℕ) → length xs ≤ k → k < 2 * length xs - 2 → Holds us′ vs′ k (nearestOf (boxAt bs k) (spotAt us vs (getD ps k 0))) → Holds us′ vs′ k (nearestOf (boxAt bs k) (spotAt us′ vs′ (getD ps k 0)))
+      above : (k : ℕ) → length xs ≤ k → k < 2 * length xs - 2 → SpotHeld us′ vs′ k (nearestOf (boxAt bs k) (spotAt us vs (getD ps k 0))) → SpotHeld us′ vs′ k (nearestOf (boxAt bs k) (spotAt us′ vs′ (getD ps k 0)))
       above k g l z =
           let r = rise k l .0 in
-          subst (λ (q : Spot). Holds us′ vs′ k (nearestOf (boxAt bs k) q)) (same-spot us vs us′ vs′ (getD ps k 0) (w .kept-u (getD ps k 0) (omega arith)) (w .kept-v (getD ps k 0) (omega arith))) z
+          subst (λ (q : Spot). SpotHeld us′ vs′ k (nearestOf (boxAt bs k) q)) (same-spot us vs us′ vs′ (getD ps k 0) (w .kept-u (getD ps k 0) (omega arith)) (w .kept-v (getD ps k 0) (omega arith))) z

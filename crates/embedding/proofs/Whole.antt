@@ -23,15 +23,15 @@ use Rattle.plane.specs.declared.segment.Spot.{Spot}
 use Rattle.embedding.specs.Nodes.{d, below, parent, value, wire}
 use Rattle.embedding.specs.Embedding.{placesU, placesV, wires, total}
 use Rattle.embedding.specs.Table.{boxAt}
-use Rattle.embedding.specs.Arrays.{Fairs, Rising, Made, Longer, Climbs, wireIn}
+use Rattle.embedding.specs.Arrays.{Fairs, Rising, AllNodes, Longer, Climbs, wireIn}
 use Rattle.embedding.specs.Places.{Sized, spotAt, Spots, PutsDown, PutsSinks}
 use Rattle.embedding.proofs.Parents.{parent-above}
 use Rattle.embedding.proofs.Orders.{below-sink, rises}
 use Rattle.embedding.proofs.Upward.{sink-is}
 use Rattle.embedding.proofs.Lifting.{value-lifts}
-use Rattle.embedding.proofs.Spots.{spot-is, spots-hold, spots-all}
+use Rattle.embedding.proofs.Spots.{spot-is, spots-held, spots-all}
 
-module _ {s : Sinks} {js bs ds ps : List ℕ} (m : Made s js bs ds ps) where
+module _ {s : Sinks} {js bs ds ps : List ℕ} (m : AllNodes s js bs ds ps) where
   abbrev n : ℕ
   n = s .n
 
@@ -94,7 +94,7 @@ module _ {s : Sinks} {js bs ds ps : List ℕ} (m : Made s js bs ds ps) where
 
     u-is : (k : ℕ) → k < 2 * n - 1 → getD us k (pos 0) ≡ value s (u s) js k
     u-is k h =
-        spots-hold w k (omega arith) h .holds-u
+        spots-held w k (omega arith) h .held-u
         ∙ unlift 128000000 (value s (u s) js k) (spotAt us vs k .u .0)
         (value-lifts s js (m .ordered) (u s) (λ i. boxAt bs i .lu .0) (λ i. boxAt bs i .hu .0) (λ i. spotAt us vs i .u .0)
         (λ i g. m .boxed i g .least-u)
@@ -106,7 +106,7 @@ module _ {s : Sinks} {js bs ds ps : List ℕ} (m : Made s js bs ds ps) where
 
     v-is : (k : ℕ) → k < 2 * n - 1 → getD vs k (pos 0) ≡ value s (v s) js k
     v-is k h =
-        spots-hold w k (omega arith) h .holds-v
+        spots-held w k (omega arith) h .held-v
         ∙ unlift 128000000 (value s (v s) js k) (spotAt us vs k .v .0)
         (value-lifts s js (m .ordered) (v s) (λ i. boxAt bs i .lv .0) (λ i. boxAt bs i .hv .0) (λ i. spotAt us vs i .v .0)
         (λ i g. m .boxed i g .least-v)
@@ -137,7 +137,7 @@ front-is {A} g m a old new e h made kept = ext-getD a new (front (tab g m) old) 
         (or-lt k m)
 
 -- the buffers before, after the joins, and after the sinks
-pub places-are : {xs ys : List ℤ} {js bs ds ps : List ℕ} {us vs mid-u mid-v us′ vs′ : List ℤ} → Ranged xs ys → Made (sinksAt xs ys) js bs ds ps
+pub places-are : {xs ys : List ℤ} {js bs ds ps : List ℕ} {us vs mid-u mid-v us′ vs′ : List ℤ} → Ranged xs ys → AllNodes (sinksAt xs ys) js bs ds ps
     → 2 * length xs - 1 ≤ length us → 2 * length xs - 1 ≤ length vs → length us′ ≡ length us → length vs′ ≡ length vs
     → PutsDown (length xs) bs ps (length xs) us vs mid-u mid-v → PutsSinks xs ys (length xs) mid-u mid-v us′ vs′
     → (us′ ≡ front (placesU (sinksAt xs ys) js) us) × (vs′ ≡ front (placesV (sinksAt xs ys) js) vs)

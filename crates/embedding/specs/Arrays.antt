@@ -32,7 +32,7 @@ abbrev pub Rising : ℕ → List ℕ → Type 0
 Rising n ps = (k : ℕ) → k < 2 * n - 2 → (k < getD ps k 0) × (getD ps k 0 ≤ 2 * n - 2)
 
 -- room for the nodes of n sinks
-pub record Room (n : ℕ) (bs ds ps : List ℕ) : Type 0 where
+pub record NodeRoom (n : ℕ) (bs ds ps : List ℕ) : Type 0 where
   pub boxes : 4 * (2 * n - 1) ≤ length bs
   pub diameters : 2 * n - 1 ≤ length ds
   pub parents : 2 * n - 1 ≤ length ps
@@ -43,7 +43,7 @@ Blank n ds = (k : ℕ) → k < n → getD ds k 0 ≡ 0
 
 -- the nodes of n sinks and of the first i joins are in the arrays
 pub record Up (n : ℕ) (js : List ℕ) (i : ℕ) (bs ds ps : List ℕ) : Type 0 where
-  pub room : Room n bs ds ps
+  pub room : NodeRoom n bs ds ps
   pub fair : Fairs (n + i) bs
   pub sized : Diameters (n + i) bs ds
   pub hulls : (j : ℕ) → j < i → boxAt bs (n + j) ≡ hullOf (boxAt bs (left js j)) (boxAt bs (right js j))
@@ -63,9 +63,9 @@ pub record PutsJoins (n : ℕ) (js : List ℕ) (i : ℕ) (bs : List ℕ) (sum : 
   pub low : sum ≤ 6000000 * i
 
 -- the arrays of all nodes
-pub record Made (s : Sinks) (js : List ℕ) (bs ds ps : List ℕ) : Type 0 where
+pub record AllNodes (s : Sinks) (js : List ℕ) (bs ds ps : List ℕ) : Type 0 where
   pub ordered : Ordered (s .n) js
-  pub room : Room (s .n) bs ds ps
+  pub room : NodeRoom (s .n) bs ds ps
   pub boxed : Boxes s js (2 * s .n - 1) bs
   pub sized : Diameters (2 * s .n - 1) bs ds
   pub named : Parents (s .n) js ps

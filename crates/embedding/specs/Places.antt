@@ -9,13 +9,13 @@ use Rattle.plane.specs.Measures.{lowered, raised}
 use Rattle.plane.specs.Spots.{rootOf, nearestOf}
 use Rattle.plane.specs.declared.segment.Spot.{Spot}
 use Rattle.embedding.specs.Table.{boxAt, Boxed}
-use Rattle.embedding.specs.Arrays.{Fairs, Diameters, Rising, Room}
+use Rattle.embedding.specs.Arrays.{Fairs, Diameters, Rising, NodeRoom}
 
 -- what the places are found from, parents first
 pub record Sized (n : ℕ) (bs ds ps : List ℕ) : Type 0 where
   pub some : 0 < n
   pub few : n ≤ 512
-  pub room : Room n bs ds ps
+  pub room : NodeRoom n bs ds ps
   pub fair : Fairs (2 * n - 1) bs
   pub sized : Diameters (2 * n - 1) bs ds
   pub rising : Rising n ps
@@ -30,9 +30,9 @@ abbrev pub spotAt : List ℤ → List ℤ → ℕ → Spot
 spotAt us vs k = record { u = raised (getD us k (pos 0)); v = raised (getD vs k (pos 0)) }
 
 -- and that it is p
-pub record Holds (us vs : List ℤ) (k : ℕ) (p : Spot) : Type 0 where
-  pub holds-u : getD us k (pos 0) ≡ lowered (p .u .0)
-  pub holds-v : getD vs k (pos 0) ≡ lowered (p .v .0)
+pub record SpotHeld (us vs : List ℤ) (k : ℕ) (p : Spot) : Type 0 where
+  pub held-u : getD us k (pos 0) ≡ lowered (p .u .0)
+  pub held-v : getD vs k (pos 0) ≡ lowered (p .v .0)
   pub low : Low p
 
 -- both buffers have an entry for node k
@@ -40,7 +40,7 @@ abbrev pub Has : List ℤ → List ℤ → ℕ → Type 0
 Has us vs k = (k < length us) × (k < length vs)
 
 -- node k's box and diameter can be read, and its place can be written
-pub record Open (k : ℕ) (bs ds : List ℕ) (us vs : List ℤ) : Type 0 where
+pub record Placeable (k : ℕ) (bs ds : List ℕ) (us vs : List ℤ) : Type 0 where
   pub boxed : Boxed bs k
   pub measured : k < length ds
   pub has : Has us vs k
@@ -54,8 +54,8 @@ pub record PutsSpot (k : ℕ) (p : Spot) (us vs us′ vs′ : List ℤ) : Type 0
 
 -- the places of the root and of the nodes from m on
 pub record Spots (n : ℕ) (bs ps : List ℕ) (m : ℕ) (us vs : List ℤ) : Type 0 where
-  pub root : Holds us vs (2 * n - 2) (rootOf (boxAt bs (2 * n - 2)))
-  pub next : (k : ℕ) → m ≤ k → k < 2 * n - 2 → Holds us vs k (nearestOf (boxAt bs k) (spotAt us vs (getD ps k 0)))
+  pub root : SpotHeld us vs (2 * n - 2) (rootOf (boxAt bs (2 * n - 2)))
+  pub next : (k : ℕ) → m ≤ k → k < 2 * n - 2 → SpotHeld us vs k (nearestOf (boxAt bs k) (spotAt us vs (getD ps k 0)))
 
 -- nothing is written from entry m on
 abbrev pub Kept : ℕ → List ℤ → List ℤ → Type 0
@@ -69,6 +69,6 @@ pub record PutsDown (n : ℕ) (bs ps : List ℕ) (m : ℕ) (us vs us′ vs′ : 
 
 -- the places of the first m sinks are written: each is its own
 pub record PutsSinks (xs ys : List ℤ) (m : ℕ) (us vs us′ vs′ : List ℤ) : Type 0 where
-  pub own : (k : ℕ) → k < m → Holds us′ vs′ k (rootOf (sinkBox (getD xs k (pos 0)) (getD ys k (pos 0))))
+  pub own : (k : ℕ) → k < m → SpotHeld us′ vs′ k (rootOf (sinkBox (getD xs k (pos 0)) (getD ys k (pos 0))))
   pub kept-u : Kept m us us′
   pub kept-v : Kept m vs vs′

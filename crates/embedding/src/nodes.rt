@@ -1,25 +1,14 @@
 // The nodes of a sound joining order, bottom-up: their boxes, diameters and parents.
 ghost use mathlib.Core.Path.{_≡_};
-ghost use Prim.Native.Nat.{_+_, _-_, _*_, _≤_, _<_};
+ghost use Prim.Native.Nat.{_+_, _-_, _*_, _<_};
 ghost use lib.ListN.{length, set};
-ghost use Rattle.plane.specs.Boxes.{hullOf};
 ghost use Rattle.plane.specs.Sinks.{sinksAt};
 ghost use Rattle.embedding.specs.Sound.{Ordered, Sound};
-ghost use Rattle.embedding.specs.Arrays.{Parents, Room, Blank, Up, PutsJoin, PutsJoins, Made};
+ghost use Rattle.embedding.specs.Arrays.{Parents, NodeRoom, Blank, Up, PutsJoin, PutsJoins, AllNodes};
 ghost use Rattle.embedding.specs.Embedding.{total};
-ghost use Rattle.embedding.specs.Table.{boxAt, Boxed};
 use crate::joins;
 use crate::table;
 use plane::boxes;
-use plane::boxes::Box;
-
-// The box of the union of two nodes.
-fn union_at(bs: &[u32], a: usize, b: usize) -> Box
-    requires { ⌜ Boxed (now bs) a × Boxed (now bs) b ⌝ }
-    ensures { λ r. ⌜ r ≡ hullOf (boxAt (now (bs .entry)) a) (boxAt (now (bs .entry)) b) ⌝ }
-{
-    boxes::hull(table::box_at(bs, a), table::box_at(bs, b))
-}
 
 fn narrow(m: usize) -> u16
     requires { ⌜ m < 65536 ⌝ }
@@ -46,7 +35,7 @@ fn put_join(js: &[u16], n: usize, i: usize, bs: &mut [u32], ds: &mut [u32], ps: 
     let a = joins::entry(js, 2 * i);
     let b = joins::entry(js, 2 * i + 1);
     let m = n + i;
-    let c = union_at(bs, a, b);
+    let c = table::union_at(bs, a, b);
     let d = boxes::breadth(c);
     table::put_box(bs, m, c);
     ds[m] = d;
@@ -78,8 +67,8 @@ pub fn put_nodes(
     ds: &mut [u32],
     ps: &mut [u16],
 ) -> u32
-    requires { ⌜ Sound (now xs) (now ys) (now js) × Room (length (now xs)) (now bs) (now ds) (now ps) × Blank (length (now xs)) (now ds) ⌝ }
-    ensures { λ r. ⌜ Made (sinksAt (now (xs .entry)) (now (ys .entry))) (now (js .entry)) (now (bs .exit)) (now (ds .exit)) (now (ps .exit)) × (r ≡ total (sinksAt (now (xs .entry)) (now (ys .entry))) (now (js .entry))) ⌝ }
+    requires { ⌜ Sound (now xs) (now ys) (now js) × NodeRoom (length (now xs)) (now bs) (now ds) (now ps) × Blank (length (now xs)) (now ds) ⌝ }
+    ensures { λ r. ⌜ AllNodes (sinksAt (now (xs .entry)) (now (ys .entry))) (now (js .entry)) (now (bs .exit)) (now (ds .exit)) (now (ps .exit)) × (r ≡ total (sinksAt (now (xs .entry)) (now (ys .entry))) (now (js .entry))) ⌝ }
 {
     let n = xs.len();
     table::put_sinks(xs, ys, bs);

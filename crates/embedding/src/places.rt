@@ -2,7 +2,7 @@
 ghost use mathlib.Core.Path.{_≡_};
 ghost use Prim.Native.Nat.{_-_, _*_, _≤_};
 ghost use lib.ListN.{length};
-ghost use Rattle.embedding.specs.Places.{Sized, Low, spotAt, Holds, Has, Open, PutsSpot, PutsDown, PutsSinks};
+ghost use Rattle.embedding.specs.Places.{Sized, Low, spotAt, SpotHeld, Has, Placeable, PutsSpot, PutsDown, PutsSinks};
 ghost use Rattle.plane.specs.Sinks.{Ranged};
 ghost use Rattle.plane.specs.Spots.{rootOf, nearestOf};
 ghost use Rattle.embedding.specs.Table.{boxAt};
@@ -15,7 +15,7 @@ use plane::segment::Spot;
 
 // The place that the buffers hold for node k.
 fn spot_at(us: &[i32], vs: &[i32], k: usize) -> Spot
-    requires { ⌜ Has (now us) (now vs) k × Holds (now us) (now vs) k (spotAt (now us) (now vs) k) ⌝ }
+    requires { ⌜ Has (now us) (now vs) k × SpotHeld (now us) (now vs) k (spotAt (now us) (now vs) k) ⌝ }
     ensures { λ r. ⌜ r ≡ spotAt (now (us .entry)) (now (vs .entry)) k ⌝ }
 {
     Spot {
@@ -34,7 +34,7 @@ fn put_spot(us: &mut [i32], vs: &mut [i32], k: usize, s: Spot)
 
 // The place of node k as the root.
 fn put_root(bs: &[u32], ds: &[u32], k: usize, us: &mut [i32], vs: &mut [i32])
-    requires { ⌜ Open k (now bs) (now ds) (now us) (now vs) ⌝ }
+    requires { ⌜ Placeable k (now bs) (now ds) (now us) (now vs) ⌝ }
     ensures { λ _. ⌜ PutsSpot k (rootOf (boxAt (now (bs .entry)) k)) (now (us .entry)) (now (vs .entry)) (now (us .exit)) (now (vs .exit)) ⌝ }
 {
     let s = segment::root_spot(table::box_at(bs, k), ds[k]);
@@ -43,7 +43,7 @@ fn put_root(bs: &[u32], ds: &[u32], k: usize, us: &mut [i32], vs: &mut [i32])
 
 // The place of node k from that of its parent p.
 fn put_near(bs: &[u32], ds: &[u32], k: usize, p: usize, us: &mut [i32], vs: &mut [i32])
-    requires { ⌜ Open k (now bs) (now ds) (now us) (now vs) × Has (now us) (now vs) p × Holds (now us) (now vs) p (spotAt (now us) (now vs) p) ⌝ }
+    requires { ⌜ Placeable k (now bs) (now ds) (now us) (now vs) × Has (now us) (now vs) p × SpotHeld (now us) (now vs) p (spotAt (now us) (now vs) p) ⌝ }
     ensures { λ _. ⌜ PutsSpot k (nearestOf (boxAt (now (bs .entry)) k) (spotAt (now (us .entry)) (now (vs .entry)) p)) (now (us .entry)) (now (vs .entry)) (now (us .exit)) (now (vs .exit)) ⌝ }
 {
     let at = spot_at(us, vs, p);

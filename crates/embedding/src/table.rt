@@ -3,8 +3,10 @@ ghost use mathlib.Core.Path.{_≡_};
 ghost use Prim.Native.Nat.{_*_, _≤_};
 ghost use lib.ListN.{length};
 ghost use Rattle.plane.specs.Sinks.{Ranged};
+ghost use Rattle.plane.specs.Boxes.{hullOf};
 ghost use Rattle.embedding.specs.Table.{boxAt, Boxed, Puts, Sinked};
 use plane::bounds;
+use plane::boxes;
 use plane::boxes::Box;
 use plane::measure;
 
@@ -20,6 +22,14 @@ pub fn box_at(bs: &[u32], k: usize) -> Box
         lv: measure::standing_for(bs[at + 2]),
         hv: measure::standing_for(bs[at + 3]),
     }
+}
+
+// The box of the union of two nodes.
+pub fn union_at(bs: &[u32], a: usize, b: usize) -> Box
+    requires { ⌜ Boxed (now bs) a × Boxed (now bs) b ⌝ }
+    ensures { λ r. ⌜ r ≡ hullOf (boxAt (now (bs .entry)) a) (boxAt (now (bs .entry)) b) ⌝ }
+{
+    boxes::hull(box_at(bs, a), box_at(bs, b))
 }
 
 pub fn put_box(bs: &mut [u32], k: usize, b: Box)

@@ -18,12 +18,6 @@ module _ {A : Type 0} where
       let h = length-grow f k in
       simp length-append (omega (arith, length-grow f k))
 
-  -- within a list, what stands for an entry that is not there does not matter
-  pub getD-any : (l : List A) (i : ℕ) (d e : A) → i < length l → getD l i d ≡ getD l i e
-  getD-any [] i d e h = let b : ⊥ = omega arith in absurd b
-  getD-any (x ∷ l) zero d e h = refl
-  getD-any (x ∷ l) (suc i) d e h = getD-any l i d e (omega arith)
-
   -- a buffer that is written from its front, with one entry more
   pub front-more : (new old : List A) (k : ℕ) (v : A) → length new ≡ k → k < length old → set (new ++ drop k old) k v ≡ (new ++ (v ∷ [])) ++ drop (k + 1) old
   front-more new old k v e h =

@@ -3,7 +3,7 @@ use Prim.Native.Nat.{_-_, _*_, _≤_, _<_}
 use native.Mathlib.Omega.{arith}
 use lib.ListN.{length}
 use Rattle.embedding.specs.Places.{PutsDown}
-use Rattle.embedding.proofs.Spots.{spots-hold, down-begin, down-again, down-more, down-done, open-at}
+use Rattle.embedding.proofs.Spots.{spots-held, down-begin, down-again, down-more, down-done, open-at}
 use Rattle.embedding.proofs.places.join_places.Statement.{statement}
 use Rattle.embedding.proofs.places.join_places.Tie as tie
 
@@ -42,7 +42,7 @@ put-near-requires c κs =
     let b : 2 * n - 1 ≤ length (c .before .before .before .before .loop .vs) = omega (arith, c .before .before .before .before .before .before .before .before .before .before .before .before .before .pre .2, c .before .before .before .before .before .vs .given, v .2) in
     let r = c .before .before .before .before .before .before .before .before .before .before .before .before .before .pre .0 .rising (k - 1) (omega (arith, v .0)) in
     let e = c .before .before .entry .ensures in
-    (open-at (k - 1) (c .before .before .before .before .before .before .before .before .before .before .before .before .before .pre .0) a b (omega (arith, v .0)), (omega arith, omega arith), spots-hold (v .3 .spots) (c .before .before .entry .result) (omega arith) (omega arith))
+    (open-at (k - 1) (c .before .before .before .before .before .before .before .before .before .before .before .before .before .pre .0) a b (omega (arith, v .0)), (omega arith, omega arith), spots-held (v .3 .spots) (c .before .before .entry .result) (omega arith) (omega arith))
 
 loop-less : tie.Need-loop-less Inv-loop μ-loop
 loop-less c = omega arith

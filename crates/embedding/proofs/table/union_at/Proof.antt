@@ -1,6 +1,6 @@
 use borrow.Author.Needs.{needs}
-use Rattle.embedding.proofs.nodes.union_at.Statement.{statement}
-use Rattle.embedding.proofs.nodes.union_at.Tie as tie
+use Rattle.embedding.proofs.table.union_at.Statement.{statement}
+use Rattle.embedding.proofs.table.union_at.Tie as tie
 
 box-at-requires : tie.Need-box-at-requires
 box-at-requires c κs = search needs
