@@ -3,9 +3,9 @@ use mathlib.Core.List.{List}
 use denote.Ref.{now}
 use Prim.Native.Nat.{ℕ}
 use native.Mathlib.Omega.{arith}
+use borrow.Author.Needs.{needs}
 use Rattle.lists.specs.Grow.{front}
 use Rattle.embedding.proofs.Whole.{all-sized, climbs, wires-are, places-are}
-use borrow.Author.Needs.{needs}
 use Rattle.embedding.proofs.embed.embed_in.Statement.{statement}
 use Rattle.embedding.proofs.embed.embed_in.Tie as tie
 

@@ -1,8 +1,8 @@
 use denote.Ref.{now}
 use Prim.Native.Nat.{_≤_}
 use native.Mathlib.Omega.{arith}
-use lib.ListN.{length, getD-replicate}
 use borrow.Author.Needs.{needs}
+use lib.ListN.{length, getD-replicate}
 use Rattle.embedding.proofs.embed.embed_sound.Statement.{statement}
 use Rattle.embedding.proofs.embed.embed_sound.Tie as tie
 

@@ -1,6 +1,6 @@
 use native.Mathlib.Omega.{arith}
-use Rattle.embedding.proofs.Upward.{new-order, puts-join}
 use borrow.Author.Needs.{needs}
+use Rattle.embedding.proofs.Upward.{new-order, puts-join}
 use Rattle.embedding.proofs.nodes.put_join.Statement.{statement}
 use Rattle.embedding.proofs.nodes.put_join.Tie as tie
 

@@ -1,10 +1,10 @@
+use denote.Ref.{now}
 use Prim.Native.Nat.{_-_, _*_}
 use native.Mathlib.Omega.{arith}
-use denote.Ref.{now}
+use borrow.Author.Needs.{needs}
 use lib.ListN.{length}
 use Rattle.embedding.proofs.Upward.{up-begin, joins-made}
 use Rattle.embedding.proofs.Whole.{short, total-is}
-use borrow.Author.Needs.{needs}
 use Rattle.embedding.proofs.nodes.put_nodes.Statement.{statement}
 use Rattle.embedding.proofs.nodes.put_nodes.Tie as tie
 

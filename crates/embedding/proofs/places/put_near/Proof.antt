@@ -1,13 +1,7 @@
-use mathlib.Core.Path.{sym, ap, subst, _∙_}
 use denote.Ref.{now}
-use Rattle.plane.specs.Boxes.{diamOf, Fair}
-use Rattle.plane.specs.Spots.{nearestOf}
-use Rattle.plane.specs.declared.boxes.Box.{Box}
-use Rattle.plane.specs.declared.segment.Spot.{Spot}
-use Rattle.embedding.specs.Table.{boxAt}
-use Rattle.embedding.specs.Places.{Low, spotAt, PutsSpot}
-use Rattle.embedding.proofs.Spots.{low-near}
 use borrow.Author.Needs.{needs}
+use Rattle.embedding.specs.Places.{spotAt}
+use Rattle.embedding.proofs.Spots.{low-near}
 use Rattle.embedding.proofs.places.put_near.Statement.{statement}
 use Rattle.embedding.proofs.places.put_near.Tie as tie
 
@@ -24,10 +18,10 @@ shared-slice-read-nearest-spot : tie.Need-shared-slice-read-nearest-spot
 shared-slice-read-nearest-spot c = search needs
 
 nearest-spot-requires : tie.Need-nearest-spot-requires
-nearest-spot-requires c κs = (subst Fair (sym (c .before .box-at .ensures)) (c .before .before .before .before .before .before .before .pre .0 .fair), c .before .before .before .before .before .before .before .pre .0 .size ∙ ap diamOf (sym (c .before .box-at .ensures)))
+nearest-spot-requires c κs = rw (c .before .box-at .ensures) (c .before .before .before .before .before .before .before .pre .0 .fair, c .before .before .before .before .before .before .before .pre .0 .size)
 
 put-spot-requires : tie.Need-put-spot-requires
-put-spot-requires c κs = (c .before .before .before .before .before .before .before .before .before .before .pre .0 .has, subst Low (sym (c .before .before .nearest-spot .ensures ∙ ap (λ (b : Box). nearestOf b (c .before .before .before .before .before .spot-at .result)) (c .before .before .before .before .box-at .ensures) ∙ ap (nearestOf (boxAt (now (c .before .before .before .before .before .before .before .before .before .before .args .bs)) (c .before .before .before .before .before .before .before .before .before .before .args .k))) (c .before .before .before .before .before .spot-at .ensures))) (low-near (spotAt (now (c .before .before .before .before .before .before .before .before .before .before .args .us)) (now (c .before .before .before .before .before .before .before .before .before .before .args .vs)) (c .before .before .before .before .before .before .before .before .before .before .args .p)) (c .before .before .before .before .before .before .before .before .before .before .pre .0 .fair)))
+put-spot-requires c κs = (c .before .before .before .before .before .before .before .before .before .before .pre .0 .has, rw (c .before .before .nearest-spot .ensures, c .before .before .before .before .box-at .ensures, c .before .before .before .before .before .spot-at .ensures) (low-near (spotAt (now (c .before .before .before .before .before .before .before .before .before .before .args .us)) (now (c .before .before .before .before .before .before .before .before .before .before .args .vs)) (c .before .before .before .before .before .before .before .before .before .before .args .p)) (c .before .before .before .before .before .before .before .before .before .before .pre .0 .fair)))
 
 same-length : tie.Need-same-length
 same-length c = search needs
@@ -36,9 +30,7 @@ same-length-2 : tie.Need-same-length-2
 same-length-2 c = search needs
 
 returns : tie.Need-returns
-returns c =
-    let a = c .before .before .before .before .before .before .before .before .before .before .before .before .before .args in
-    subst (λ (s : Spot). PutsSpot (a .k) s (now (a .us)) (now (a .vs)) (c .before .before .put-spot .last .0) (c .before .before .put-spot .last .1 .0)) (c .before .before .before .before .before .nearest-spot .ensures ∙ ap (λ (b : Box). nearestOf b (c .before .before .before .before .before .before .before .before .spot-at .result)) (c .before .before .before .before .before .before .before .box-at .ensures) ∙ ap (nearestOf (boxAt (now (c .before .before .before .before .before .before .before .before .before .before .before .before .before .args .bs)) (c .before .before .before .before .before .before .before .before .before .before .before .before .before .args .k))) (c .before .before .before .before .before .before .before .before .spot-at .ensures)) (c .before .before .put-spot .ensures)
+returns c = rw (c .before .before .before .before .before .nearest-spot .ensures, c .before .before .before .before .before .before .before .box-at .ensures, c .before .before .before .before .before .before .before .before .spot-at .ensures) at (c .before .before .put-spot .ensures)
 
 pub put-near-spec : {M : Type 1} → statement M
 put-near-spec =

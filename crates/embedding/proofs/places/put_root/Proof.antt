@@ -1,11 +1,5 @@
-use mathlib.Core.Path.{sym, ap, subst, _∙_}
-use denote.Ref.{now}
-use Rattle.plane.specs.Boxes.{diamOf, Fair}
-use Rattle.plane.specs.Spots.{rootOf}
-use Rattle.plane.specs.declared.segment.Spot.{Spot}
-use Rattle.embedding.specs.Places.{Low, PutsSpot}
-use Rattle.embedding.proofs.Spots.{low-root}
 use borrow.Author.Needs.{needs}
+use Rattle.embedding.proofs.Spots.{low-root}
 use Rattle.embedding.proofs.places.put_root.Statement.{statement}
 use Rattle.embedding.proofs.places.put_root.Tie as tie
 
@@ -19,10 +13,10 @@ shared-slice-read-root-spot : tie.Need-shared-slice-read-root-spot
 shared-slice-read-root-spot c = search needs
 
 root-spot-requires : tie.Need-root-spot-requires
-root-spot-requires c κs = (subst Fair (sym (c .before .box-at .ensures)) (c .before .before .before .before .pre .fair), c .before .before .before .before .pre .size ∙ ap diamOf (sym (c .before .box-at .ensures)))
+root-spot-requires c κs = rw (c .before .box-at .ensures) (c .before .before .before .before .pre .fair, c .before .before .before .before .pre .size)
 
 put-spot-requires : tie.Need-put-spot-requires
-put-spot-requires c κs = (c .before .before .before .before .before .before .before .pre .has, subst Low (sym (c .before .before .root-spot .ensures ∙ ap rootOf (c .before .before .before .before .box-at .ensures))) (low-root (c .before .before .before .before .before .before .before .pre .fair)))
+put-spot-requires c κs = (c .before .before .before .before .before .before .before .pre .has, rw (c .before .before .root-spot .ensures, c .before .before .before .before .box-at .ensures) (low-root (c .before .before .before .before .before .before .before .pre .fair)))
 
 same-length : tie.Need-same-length
 same-length c = search needs
@@ -31,9 +25,7 @@ same-length-2 : tie.Need-same-length-2
 same-length-2 c = search needs
 
 returns : tie.Need-returns
-returns c =
-    let a = c .before .before .before .before .before .before .before .before .before .before .args in
-    subst (λ (s : Spot). PutsSpot (a .k) s (now (a .us)) (now (a .vs)) (c .before .before .put-spot .last .0) (c .before .before .put-spot .last .1 .0)) (c .before .before .before .before .before .root-spot .ensures ∙ ap rootOf (c .before .before .before .before .before .before .before .box-at .ensures)) (c .before .before .put-spot .ensures)
+returns c = rw (c .before .before .before .before .before .root-spot .ensures, c .before .before .before .before .before .before .before .box-at .ensures) at (c .before .before .put-spot .ensures)
 
 pub put-root-spec : {M : Type 1} → statement M
 put-root-spec =

@@ -1,7 +1,7 @@
 use mathlib.Core.Path.{_≡_, refl, sym, subst, _∙_}
+use denote.Ref.{now}
 use Prim.Native.Nat.{_-_, _≤_}
 use native.Mathlib.Omega.{arith}
-use denote.Ref.{now}
 use lib.ListN.{length}
 use Rattle.embedding.specs.Places.{Low, PutsSinks}
 use Rattle.embedding.proofs.Upward.{sink-flat}

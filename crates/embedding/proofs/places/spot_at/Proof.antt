@@ -1,10 +1,10 @@
 use denote.Ref.{now}
+use borrow.Author.Needs.{needs, sfits-of}
 use lib.IntN.{pos}
 use lib.ListN.{getD}
 use mir.Facts.{toZ-ofZ}
 use mir.Syntax.{w32}
 use mir.Val.{SFits}
-use borrow.Author.Needs.{needs, sfits-of}
 use Rattle.embedding.proofs.places.spot_at.Statement.{statement}
 use Rattle.embedding.proofs.places.spot_at.Tie as tie
 

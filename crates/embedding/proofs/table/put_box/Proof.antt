@@ -1,8 +1,8 @@
-use native.Mathlib.Omega.{arith}
 use denote.Ref.{now}
+use native.Mathlib.Omega.{arith}
+use borrow.Author.Needs.{needs}
 use lib.ListN.{length-set}
 use Rattle.embedding.proofs.Boxing.{puts-of}
-use borrow.Author.Needs.{needs}
 use Rattle.embedding.proofs.table.put_box.Statement.{statement}
 use Rattle.embedding.proofs.table.put_box.Tie as tie
 

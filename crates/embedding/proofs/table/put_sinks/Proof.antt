@@ -1,9 +1,9 @@
-use Prim.Native.Nat.{_≤_, _-_}
 use mathlib.Core.Path.{_≡_, refl, _∙_}
-use native.Mathlib.Omega.{arith}
-use denote.Ref.{now}
-use lib.ListN.{length}
 use mathlib.Core.List.{[], _∷_}
+use denote.Ref.{now}
+use Prim.Native.Nat.{_≤_, _-_}
+use native.Mathlib.Omega.{arith}
+use lib.ListN.{length}
 use Rattle.plane.specs.Sinks.{sinksAt}
 use Rattle.plane.specs.Covers.{Covers}
 use Rattle.embedding.specs.Table.{Sinked}
