@@ -16,6 +16,14 @@ pub fn entry(js: &[u16], p: usize) -> usize
     js[p] as usize
 }
 
+// A node number, as pairs hold it.
+pub fn narrow(k: usize) -> u16
+    requires { ⌜ k < 65536 ⌝ }
+    ensures { λ r. ⌜ r ≡ k ⌝ }
+{
+    k as u16
+}
+
 // Whether a pair that makes node top names a node twice, or one that is not lower.
 fn is_unlike(a: usize, b: usize, top: usize) -> bool
     ensures { λ r. ⌜ r ≡ (eqb a b || (leb top a || leb top b)) ⌝ }

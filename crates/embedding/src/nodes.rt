@@ -10,19 +10,12 @@ use crate::joins;
 use crate::table;
 use plane::boxes;
 
-fn narrow(m: usize) -> u16
-    requires { ⌜ m < 65536 ⌝ }
-    ensures { λ r. ⌜ r ≡ m ⌝ }
-{
-    m as u16
-}
-
 // Node m is the parent of nodes a and b.
 fn put_parent(ps: &mut [u16], a: usize, b: usize, m: usize)
     requires { ⌜ (a < length (now ps)) × (b < length (now ps)) × (m < 65536) ⌝ }
     ensures { λ _. ⌜ now (ps .exit) ≡ set (set (now (ps .entry)) a m) b m ⌝ }
 {
-    let p = narrow(m);
+    let p = joins::narrow(m);
     ps[a] = p;
     ps[b] = p;
 }

@@ -12,7 +12,7 @@ use Rattle.lists.proofs.Tests.{or-lt}
 use Rattle.nearest.specs.declared.pair.Pair.{Pair}
 use Rattle.nearest.specs.Nearest.{isOf, without, after}
 use Rattle.nearest.specs.Rule.{In}
-use Rattle.nearest.specs.Boxes.{boxAt}
+use Rattle.embedding.specs.Table.{boxAt}
 use Rattle.nearest.specs.Live.{All, Rising}
 use Rattle.nearest.specs.Live.All.{none, also}
 use Rattle.nearest.specs.Live.Each.{nil, cons}

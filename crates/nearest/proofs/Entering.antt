@@ -10,7 +10,8 @@ use lib.Seq.{getD-at}
 use Rattle.lists.proofs.Tests.{or-lt, choice}
 use Rattle.plane.specs.declared.boxes.Box.{Box}
 use Rattle.plane.specs.Boxes.{hullOf, diamOf}
-use Rattle.nearest.specs.Boxes.{boxAt, reach}
+use Rattle.embedding.specs.Table.{boxAt}
+use Rattle.nearest.specs.Boxes.{reach}
 use Rattle.nearest.specs.Live.{Below}
 use Rattle.nearest.specs.Rows.{Row, rowAt, span, given, held, Sets, NewBox, Right, Seated, Entered}
 use Rattle.nearest.proofs.Members.{all-at}

@@ -21,7 +21,8 @@ use Rattle.plane.proofs.Covering.{covers-hull, covers-diam}
 use Rattle.nearest.specs.declared.pair.Pair.{Pair}
 use Rattle.nearest.specs.declared.best.Choice.{Choice}
 use Rattle.nearest.specs.Nearest.{pair, below, union, best, without, after, chosen, joins, alone, order}
-use Rattle.nearest.specs.Boxes.{boxAt, reach, Puts, Sinked}
+use Rattle.embedding.specs.Table.{boxAt, Puts, Sinked}
+use Rattle.nearest.specs.Boxes.{reach}
 use Rattle.nearest.specs.Live.{Packed}
 use Rattle.nearest.specs.Rows.{rowAt, Roomy, skipBoth, Right, Caching, pairAt, Picks, Closed, Entered}
 use Rattle.nearest.specs.Rounds.{Open, Made, Round}

@@ -6,7 +6,8 @@ use lib.ListN.{length, take, set}
 use Rattle.plane.specs.Boxes.{hullOf}
 use Rattle.nearest.specs.declared.pair.Pair.{Pair}
 use Rattle.nearest.specs.Nearest.{best, after}
-use Rattle.nearest.specs.Boxes.{boxAt, Upright, reach, Boxed, Puts}
+use Rattle.embedding.specs.Table.{boxAt, Boxed, Puts}
+use Rattle.nearest.specs.Boxes.{Upright, reach}
 use Rattle.nearest.specs.Live.{Packed}
 use Rattle.nearest.specs.Rows.{rowAt, Roomy, Right}
 

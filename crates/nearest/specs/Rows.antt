@@ -13,7 +13,8 @@ use Rattle.nearest.specs.declared.pair.Near.{Near}
 use Rattle.nearest.specs.declared.pair.Pair.{Pair}
 use Rattle.nearest.specs.declared.best.Choice.{Choice}
 use Rattle.nearest.specs.Nearest.{pair}
-use Rattle.nearest.specs.Boxes.{boxAt, Upright, reach}
+use Rattle.embedding.specs.Table.{boxAt}
+use Rattle.nearest.specs.Boxes.{Upright, reach}
 use Rattle.nearest.specs.Live.{Rising, Below}
 
 -- the box of a live node, a partner among the later ones, and how far that one is

@@ -9,7 +9,7 @@ use crate::best::Choice;
 use crate::live;
 use crate::pair::Near;
 use crate::rows;
-use crate::table;
+use embedding::table;
 use plane::boxes::Box;
 
 // Node m with box b comes after k rows that were held against it. The last of them had no later node, so this one is its partner, whatever it kept.

@@ -6,5 +6,4 @@ pub mod lowest;
 pub mod order;
 pub mod pair;
 pub mod rows;
-pub mod table;
 pub mod tree;

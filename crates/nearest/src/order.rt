@@ -3,6 +3,8 @@ ghost use mathlib.Core.Path.{_≡_};
 ghost use Prim.Native.Nat.{_+_, _*_, _<_};
 ghost use lib.ListN.{length, set};
 ghost use Rattle.lists.specs.Grow.{front};
+ghost use Rattle.plane.specs.Boxes.{hullOf};
+ghost use Rattle.embedding.specs.Table.{boxAt, Boxed, Puts};
 ghost use Rattle.nearest.specs.Rounds.{Open, Round};
 ghost use Rattle.nearest.specs.Calls.{orderAt, checkNearest, Joining};
 ghost use Rattle.nearest.specs.Ready.{CanJoin};
@@ -10,7 +12,8 @@ use crate::best;
 use crate::keep;
 use crate::live;
 use crate::pair::Pair;
-use crate::table;
+use embedding::joins;
+use embedding::table;
 use plane::refusal::Checked;
 use plane::refusal::Refusal;
 use plane::sinks;
@@ -21,21 +24,23 @@ pub enum Joined {
     NoOrder(Refusal),
 }
 
-fn narrow(x: usize) -> u16
-    requires { ⌜ x < 65536 ⌝ }
-    ensures { λ r. ⌜ r ≡ x ⌝ }
-{
-    x as u16
-}
-
 // Pair i, the lower number first.
 fn write_pair(js: &mut [u16], i: usize, p: Pair)
     requires { ⌜ (2 * i + 1 < length (now js)) × (p .low < 65536) × (p .high < 65536) ⌝ }
     ensures { λ _. ⌜ now (js .exit) ≡ set (set (now (js .entry)) (2 * i) (p .low)) (2 * i + 1) (p .high) ⌝ }
 {
     let at = 2 * i;
-    js[at] = narrow(p.low);
-    js[at + 1] = narrow(p.high);
+    js[at] = joins::narrow(p.low);
+    js[at + 1] = joins::narrow(p.high);
+}
+
+// Node m's box: the hull of a pair.
+fn put_hull(bs: &mut [u32], m: usize, p: Pair)
+    requires { ⌜ Boxed (now bs) m × (p .low < m) × (p .high < m) ⌝ }
+    ensures { λ _. ⌜ Puts m (hullOf (boxAt (now (bs .entry)) (p .low)) (boxAt (now (bs .entry)) (p .high))) (now (bs .entry)) (now (bs .exit)) ⌝ }
+{
+    let b = table::union_at(bs, p.low, p.high);
+    table::put_box(bs, m, b);
 }
 
 // Join i of n sinks: the best pair is joined and written, and what is kept is right again for the live nodes, one fewer.
@@ -46,7 +51,7 @@ fn round(bs: &mut [u32], live: &mut [usize], rows: &mut [u32], n: usize, i: usiz
     let m = n + i;
     let c = best::nearest(live, bs, rows);
     let p = best::pair_at(live, c);
-    table::put_hull(bs, m, p);
+    put_hull(bs, m, p);
     keep::close(live, rows, c, table::box_at(bs, m), m);
     write_pair(js, i, p);
 }

@@ -1,6 +1,6 @@
 use borrow.Author.Needs.{needs}
-use Rattle.nearest.proofs.table.put_hull.Statement.{statement}
-use Rattle.nearest.proofs.table.put_hull.Tie as tie
+use Rattle.nearest.proofs.order.put_hull.Statement.{statement}
+use Rattle.nearest.proofs.order.put_hull.Tie as tie
 
 union-at-requires : tie.Need-union-at-requires
 union-at-requires c κs = search needs
