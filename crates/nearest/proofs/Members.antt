@@ -43,11 +43,6 @@ all-at t none l = let b : ⊥ = omega arith in absurd b
 all-at zero (also p h) l = p
 all-at (suc t) (also p h) l = all-at t h (omega arith)
 
-pub all-drop : {P : ℕ → Type 0} {ls : List ℕ} (t : ℕ) → All P ls → All P (drop t ls)
-all-drop zero h = h
-all-drop (suc t) none = none
-all-drop (suc t) (also p h) = all-drop t h
-
 -- ---- members
 pub in-all : {x : ℕ} {ls : List ℕ} {P : ℕ → Type 0} → In x ls → All P ls → P x
 in-all hit (also p h) = p
