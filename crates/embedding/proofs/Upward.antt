@@ -23,7 +23,7 @@ use Rattle.embedding.specs.Joins.{left, right}
 use Rattle.embedding.specs.Sound.{Ordered, Sound}
 use Rattle.embedding.specs.Nodes.{node, below}
 use Rattle.embedding.specs.Table.{boxAt, Puts, Sinked}
-use Rattle.embedding.specs.Arrays.{Boxes, NodeRoom, Blank, Up, PutsJoin, PutsJoins, AllNodes}
+use Rattle.embedding.specs.Arrays.{Boxes, NodeRoom, Cleared, Up, PutsJoin, PutsJoins, AllNodes}
 use Rattle.embedding.proofs.Boxing.{puts-each}
 use Rattle.embedding.proofs.Parents.{parents-more, parents-done}
 use Rattle.embedding.proofs.Orders.{sinks-some, below-sink, below-join}
@@ -44,7 +44,7 @@ sink-diam x y = omega arith
 pub sink-flat : {xs ys : List ℤ} {k : ℕ} {b : Box} → Ranged xs ys → k < length xs → Covers (sinksAt xs ys) (k ∷ []) b → diamOf b ≡ 0
 sink-flat {xs} {ys} {k} {b} r h c = ap diamOf (sink-is xs ys r k h b c) ∙ sink-diam (getD xs k (pos 0)) (getD ys k (pos 0))
 
-pub up-begin : {xs ys : List ℤ} {js bs ds ps : List ℕ} → Ranged xs ys → NodeRoom (length xs) bs ds ps → Blank (length xs) ds → Sinked xs ys (length xs) bs → Up (length xs) js 0 bs ds ps
+pub up-begin : {xs ys : List ℤ} {js bs ds ps : List ℕ} → Ranged xs ys → NodeRoom (length xs) bs ds ps → Cleared (length xs) ds → Sinked xs ys (length xs) bs → Up (length xs) js 0 bs ds ps
 up-begin {xs} {ys} {js} {bs} {ds} {ps} r room blank w =
     record {
       room = room;

@@ -38,8 +38,8 @@ pub record NodeRoom (n : ℕ) (bs ds ps : List ℕ) : Type 0 where
   pub parents : 2 * n - 1 ≤ length ps
 
 -- a cleared list: no sink has a diameter
-abbrev pub Blank : ℕ → List ℕ → Type 0
-Blank n ds = (k : ℕ) → k < n → getD ds k 0 ≡ 0
+abbrev pub Cleared : ℕ → List ℕ → Type 0
+Cleared n ds = (k : ℕ) → k < n → getD ds k 0 ≡ 0
 
 -- the nodes of n sinks and of the first i joins are in the arrays
 pub record Up (n : ℕ) (js : List ℕ) (i : ℕ) (bs ds ps : List ℕ) : Type 0 where

@@ -2,7 +2,7 @@
 ghost use Prim.Native.Nat.{_≤_};
 ghost use lib.ListN.{length};
 ghost use Rattle.embedding.specs.Sound.{Ready, Embeds};
-ghost use Rattle.embedding.specs.Arrays.{NodeRoom, Blank};
+ghost use Rattle.embedding.specs.Arrays.{NodeRoom, Cleared};
 ghost use Rattle.embedding.specs.Permitted.{Permitted};
 use crate::check;
 use crate::nodes;
@@ -29,7 +29,7 @@ fn embed_in(
     ds: &mut [u32],
     ps: &mut [u16],
 ) -> u32
-    requires { ⌜ Ready (now xs) (now ys) (now js) (now us) (now vs) (now ws) × NodeRoom (length (now xs)) (now bs) (now ds) (now ps) × Blank (length (now xs)) (now ds) ⌝ }
+    requires { ⌜ Ready (now xs) (now ys) (now js) (now us) (now vs) (now ws) × NodeRoom (length (now xs)) (now bs) (now ds) (now ps) × Cleared (length (now xs)) (now ds) ⌝ }
     ensures { λ r. ⌜ Embeds (now (xs .entry)) (now (ys .entry)) (now (js .entry)) (now (us .entry)) (now (vs .entry)) (now (ws .entry)) r (now (us .exit)) (now (vs .exit)) (now (ws .exit)) ⌝ }
 {
     let n = xs.len();

@@ -4,7 +4,7 @@ ghost use Prim.Native.Nat.{_+_, _-_, _*_, _<_};
 ghost use lib.ListN.{length, set};
 ghost use Rattle.plane.specs.Sinks.{sinksAt};
 ghost use Rattle.embedding.specs.Sound.{Ordered, Sound};
-ghost use Rattle.embedding.specs.Arrays.{Parents, NodeRoom, Blank, Up, PutsJoin, PutsJoins, AllNodes};
+ghost use Rattle.embedding.specs.Arrays.{Parents, NodeRoom, Cleared, Up, PutsJoin, PutsJoins, AllNodes};
 ghost use Rattle.embedding.specs.Embedding.{total};
 use crate::joins;
 use crate::table;
@@ -60,7 +60,7 @@ pub fn put_nodes(
     ds: &mut [u32],
     ps: &mut [u16],
 ) -> u32
-    requires { ⌜ Sound (now xs) (now ys) (now js) × NodeRoom (length (now xs)) (now bs) (now ds) (now ps) × Blank (length (now xs)) (now ds) ⌝ }
+    requires { ⌜ Sound (now xs) (now ys) (now js) × NodeRoom (length (now xs)) (now bs) (now ds) (now ps) × Cleared (length (now xs)) (now ds) ⌝ }
     ensures { λ r. ⌜ AllNodes (sinksAt (now (xs .entry)) (now (ys .entry))) (now (js .entry)) (now (bs .exit)) (now (ds .exit)) (now (ps .exit)) × (r ≡ total (sinksAt (now (xs .entry)) (now (ys .entry))) (now (js .entry))) ⌝ }
 {
     let n = xs.len();

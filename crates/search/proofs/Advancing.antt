@@ -11,7 +11,7 @@ use lib.Pow.{pow-mono}
 use lib.Seq.{take-all}
 use Rattle.lists.specs.Grow.{front}
 use Rattle.search.specs.Best.{stepCount}
-use Rattle.search.specs.Blocks.{Begun, Blank, Dealt, Deals, Modest, Opened, Short, Within, firsts, seconds}
+use Rattle.search.specs.Blocks.{Begun, Blank, Dealt, Deals, Modest, Opened, Short, Within, toFirst, toSecond}
 use Rattle.search.specs.Square.{held}
 use Rattle.search.specs.Subsets.{rising}
 use Rattle.search.specs.Table.{blankOf, blanks, stepOf, steps, stepsOf, tableAfter}
@@ -34,8 +34,8 @@ pub record Advanced (n : ℕ) (ds t₀ : List ℕ) (h : ℕ) (t rows : List ℕ)
 dealt-kept : (t t2 rows : List ℕ) (h : ℕ) → ((j : ℕ) → j < 8 * h → getD t2 j 0 ≡ getD t j 0) → Dealt t h rows → Dealt t2 h rows
 dealt-kept t t2 rows h same d =
     record {
-      first = λ g k p q b. d .first g k p q b ∙ sym (same (8 * g + getD firsts k 0) (omega (arith, low-parts k .0)));
-      second = λ g k p q b. d .second g k p q b ∙ sym (same (8 * g + getD seconds k 0) (omega (arith, low-parts k .1)));
+      first = λ g k p q b. d .first g k p q b ∙ sym (same (8 * g + getD toFirst k 0) (omega (arith, low-parts k .0)));
+      second = λ g k p q b. d .second g k p q b ∙ sym (same (8 * g + getD toSecond k 0) (omega (arith, low-parts k .1)));
     }
 
 -- rows that nothing was put into

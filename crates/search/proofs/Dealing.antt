@@ -12,7 +12,7 @@ use lib.Dec.{eqb, ltb}
 use lib.ListN.{length, getD}
 use borrow.Author.Tests.{eqb-true, ltb-true}
 use Rattle.lists.proofs.Tests.{or-lt}
-use Rattle.search.specs.Blocks.{Lanes, Within, begins, counts, firsts, inLane, laneLeast, leastFrom, partsTo, seconds, splitOff}
+use Rattle.search.specs.Blocks.{Lanes, Within, begins, counts, toFirst, inLane, laneLeast, leastWith, partsTo, toSecond, splitOff}
 use Rattle.search.specs.Subsets.{isPart, keep, lowest, rising, splits, within}
 use Rattle.search.specs.Sums.{beyond, sums}
 use Rattle.search.specs.Table.{betterAt}
@@ -24,29 +24,29 @@ use Rattle.search.proofs.Scan.{Parts, parts-splits}
 use Rattle.search.proofs.Splits.{and-both, is-part, part-within}
 
 -- ---- the least of v and of f over a list
-least-start : (f : ℕ → ℕ) (v : ℕ) (l : List ℕ) → leastFrom f v l ≤ v
+least-start : (f : ℕ → ℕ) (v : ℕ) (l : List ℕ) → leastWith f v l ≤ v
 least-start f v [] = le-refl v
 least-start f v (a ∷ l) = omega (arith, least-start f (min v (f a)) l)
 
-least-at : (f : ℕ → ℕ) (v : ℕ) (l : List ℕ) (a : ℕ) → List·Memᴰ a l → leastFrom f v l ≤ f a
+least-at : (f : ℕ → ℕ) (v : ℕ) (l : List ℕ) (a : ℕ) → List·Memᴰ a l → leastWith f v l ≤ f a
 least-at f v (b ∷ l) a (List·Memᴰ·head q) = omega (arith, least-start f (min v (f b)) l, ap f q)
 least-at f v (b ∷ l) a (List·Memᴰ·tail m) = least-at f (min v (f b)) l a m
 
 -- what is no more than any of them
-least-above : (f : ℕ → ℕ) (x v : ℕ) (l : List ℕ) → x ≤ v → ((a : ℕ) → List·Memᴰ a l → x ≤ f a) → x ≤ leastFrom f v l
+least-above : (f : ℕ → ℕ) (x v : ℕ) (l : List ℕ) → x ≤ v → ((a : ℕ) → List·Memᴰ a l → x ≤ f a) → x ≤ leastWith f v l
 least-above f x v [] h k = h
 least-above f x v (a ∷ l) h k = least-above f x (min v (f a)) l (omega (arith, k a (List·Memᴰ·head refl))) (λ b m. k b (List·Memᴰ·tail m))
 
-least-no-more : (f g : ℕ → ℕ) (v : ℕ) (l l′ : List ℕ) → ((b : ℕ) → List·Memᴰ b l′ → (a : ℕ) × List·Memᴰ a l × (g b ≡ f a)) → leastFrom f v l ≤ leastFrom g v l′
+least-no-more : (f g : ℕ → ℕ) (v : ℕ) (l l′ : List ℕ) → ((b : ℕ) → List·Memᴰ b l′ → (a : ℕ) × List·Memᴰ a l × (g b ≡ f a)) → leastWith f v l ≤ leastWith g v l′
 least-no-more f g v l l′ back =
-    least-above g (leastFrom f v l) v l′ (least-start f v l) (λ b m. let (a, r, e) = back b m in omega (arith, least-at f v l a r))
+    least-above g (leastWith f v l) v l′ (least-start f v l) (λ b m. let (a, r, e) = back b m in omega (arith, least-at f v l a r))
 
 -- the same values have the same least
 pub least-same : (f g : ℕ → ℕ) (v : ℕ) (l l′ : List ℕ) → ((a : ℕ) → List·Memᴰ a l → (b : ℕ) × List·Memᴰ b l′ × (f a ≡ g b))
-    → ((b : ℕ) → List·Memᴰ b l′ → (a : ℕ) × List·Memᴰ a l × (g b ≡ f a)) → leastFrom f v l ≡ leastFrom g v l′
+    → ((b : ℕ) → List·Memᴰ b l′ → (a : ℕ) × List·Memᴰ a l × (g b ≡ f a)) → leastWith f v l ≡ leastWith g v l′
 least-same f g v l l′ to back = le-antisymm (least-no-more f g v l l′ back) (least-no-more g f v l′ l to)
 
-pub least-each : (f g : ℕ → ℕ) (v : ℕ) (l : List ℕ) → ((a : ℕ) → List·Memᴰ a l → f a ≡ g a) → leastFrom f v l ≡ leastFrom g v l
+pub least-each : (f g : ℕ → ℕ) (v : ℕ) (l : List ℕ) → ((a : ℕ) → List·Memᴰ a l → f a ≡ g a) → leastWith f v l ≡ leastWith g v l
 least-each f g v l e = least-same f g v l l (λ a m. (a, m, e a m)) (λ a m. (a, m, sym (e a m)))
 
 -- ---- parts of the high and of the low sinks
@@ -83,11 +83,11 @@ laneOf l y = begins l + length (partsTo l y)
 
 -- it is one of those of l, and deals the others to the second part
 abbrev met : ℕ → ℕ → Bool
-met l y = ltb (length (partsTo l y)) (counts l) && (eqb (getD firsts (laneOf l y) 0) y && eqb (getD seconds (laneOf l y) 0) (l - y))
+met l y = ltb (length (partsTo l y)) (counts l) && (eqb (getD toFirst (laneOf l y) 0) y && eqb (getD toSecond (laneOf l y) 0) (l - y))
 
 -- lane k deals the low sinks l
 abbrev fair : ℕ → ℕ → Bool
-fair l k = ltb k 27 && (within (getD firsts k 0) l && eqb (getD seconds k 0) (l - getD firsts k 0))
+fair l k = ltb k 27 && (within (getD toFirst k 0) l && eqb (getD toSecond k 0) (l - getD toFirst k 0))
 
 abbrev allOf : ℕ → Bool
 allOf l = each (met l) (0 ∷ partsTo l l) && each (fair l) (rising (counts l) (begins l))
@@ -102,26 +102,26 @@ module _ (l : ℕ) (few : l < 8) where
       and-both (each (met l) (0 ∷ partsTo l l)) (each (fair l) (rising (counts l) (begins l)))
       (each-in allOf (rising 8 0) l all-lanes (in-rising 8 0 l (omega arith) few))
 
-  lane-met : (y : ℕ) → Sub y l → List·Memᴰ (laneOf l y) (rising (counts l) (begins l)) × (getD firsts (laneOf l y) 0 ≡ y) × (getD seconds (laneOf l y) 0 ≡ l - y)
+  lane-met : (y : ℕ) → Sub y l → List·Memᴰ (laneOf l y) (rising (counts l) (begins l)) × (getD toFirst (laneOf l y) 0 ≡ y) × (getD toSecond (laneOf l y) 0 ≡ l - y)
   lane-met y u =
-      let (p, q) = and-both (ltb (length (partsTo l y)) (counts l)) (eqb (getD firsts (laneOf l y) 0) y && eqb (getD seconds (laneOf l y) 0) (l - y)) (each-in (met l) (0 ∷ partsTo l l) y (group .0) (listed y u)) in
-      let (f, g) = and-both (eqb (getD firsts (laneOf l y) 0) y) (eqb (getD seconds (laneOf l y) 0) (l - y)) q in (
+      let (p, q) = and-both (ltb (length (partsTo l y)) (counts l)) (eqb (getD toFirst (laneOf l y) 0) y && eqb (getD toSecond (laneOf l y) 0) (l - y)) (each-in (met l) (0 ∷ partsTo l l) y (group .0) (listed y u)) in
+      let (f, g) = and-both (eqb (getD toFirst (laneOf l y) 0) y) (eqb (getD toSecond (laneOf l y) 0) (l - y)) q in (
         in-rising (counts l) (begins l) (laneOf l y) (omega arith) (omega (arith, ltb-true (length (partsTo l y)) (counts l) p)),
-        eqb-true (getD firsts (laneOf l y) 0) y f,
-        eqb-true (getD seconds (laneOf l y) 0) (l - y) g,
+        eqb-true (getD toFirst (laneOf l y) 0) y f,
+        eqb-true (getD toSecond (laneOf l y) 0) (l - y) g,
       )
     where
       listed : (y : ℕ) → Sub y l → List·Memᴰ y (0 ∷ partsTo l l)
       listed zero u = List·Memᴰ·head refl
       listed (suc y) u = List·Memᴰ·tail (in-parts l l (suc y) (omega arith) (sub-le (suc y) l u) u)
 
-  lane-fair : (k : ℕ) → List·Memᴰ k (rising (counts l) (begins l)) → (k < 27) × Sub (getD firsts k 0) l × (getD seconds k 0 ≡ l - getD firsts k 0)
+  lane-fair : (k : ℕ) → List·Memᴰ k (rising (counts l) (begins l)) → (k < 27) × Sub (getD toFirst k 0) l × (getD toSecond k 0 ≡ l - getD toFirst k 0)
   lane-fair k m =
-      let (p, q) = and-both (ltb k 27) (within (getD firsts k 0) l && eqb (getD seconds k 0) (l - getD firsts k 0)) (each-in (fair l) (rising (counts l) (begins l)) k (group .1) m) in
-      let (f, g) = and-both (within (getD firsts k 0) l) (eqb (getD seconds k 0) (l - getD firsts k 0)) q in (
+      let (p, q) = and-both (ltb k 27) (within (getD toFirst k 0) l && eqb (getD toSecond k 0) (l - getD toFirst k 0)) (each-in (fair l) (rising (counts l) (begins l)) k (group .1) m) in
+      let (f, g) = and-both (within (getD toFirst k 0) l) (eqb (getD toSecond k 0) (l - getD toFirst k 0)) q in (
         ltb-true k 27 p,
-        eqb-true (bitAnd (getD firsts k 0) l) (getD firsts k 0) f,
-        eqb-true (getD seconds k 0) (l - getD firsts k 0) g,
+        eqb-true (bitAnd (getD toFirst k 0) l) (getD toFirst k 0) f,
+        eqb-true (getD toSecond k 0) (l - getD toFirst k 0) g,
       )
 
 -- ---- the splits of s
@@ -142,7 +142,7 @@ either-split s a h k u =
     listed x h e = in-keep (isPart s) (rising s 0) x (in-rising s 0 x (omega arith) (omega arith)) e
 
 -- the least of the splits is no more than any two parts come to
-split-least : (t : List ℕ) (s v a : ℕ) → 0 < a → a < s → Sub a s → leastFrom (sums t s) v (splits s) ≤ getD t a 0 + getD t (s - a) 0
+split-least : (t : List ℕ) (s v a : ℕ) → 0 < a → a < s → Sub a s → leastWith (sums t s) v (splits s) ≤ getD t a 0 + getD t (s - a) 0
 split-least t s v a h k u =
     ⊎-elim
     (λ m. least-at (sums t s) v (splits s) a m)
@@ -155,13 +155,13 @@ module _ (t : List ℕ) (h l : ℕ) (some : 0 < h) (few : l < 8) where
   whole = 8 * h + l
 
   abbrev inLanes : ℕ
-  inLanes = leastFrom (laneLeast t h) 4294967295 (rising (counts l) (begins l))
+  inLanes = leastWith (laneLeast t h) 4294967295 (rising (counts l) (begins l))
 
   abbrev inAll : ℕ
-  inAll = leastFrom (splitOff t whole) inLanes (partsTo l l)
+  inAll = leastWith (splitOff t whole) inLanes (partsTo l l)
 
   abbrev inSplits : ℕ
-  inSplits = leastFrom (sums t whole) 4294967295 (splits whole)
+  inSplits = leastWith (sums t whole) 4294967295 (splits whole)
 
   -- two parts that both hold high sinks
   lane-at : (x y : ℕ) → List·Memᴰ x (splits h) → Sub y l → inAll ≤ getD t (8 * x + y) 0 + getD t (8 * (h - x) + (l - y)) 0
@@ -215,17 +215,17 @@ module _ (t : List ℕ) (h l : ℕ) (some : 0 < h) (few : l < 8) where
   split-lane k a m r =
       let (b, f, g) = lane-fair l few k m in
       let (p, q, u) = parts-at h (splits h) a (parts-splits h some) r in
-      let c : getD firsts k 0 ≤ l = sub-le (getD firsts k 0) l f in
-      let e : whole - (8 * a + getD firsts k 0) ≡ 8 * (h - a) + getD seconds k 0 = omega (arith, c, g) in
-      subst (λ (x : ℕ). inSplits ≤ getD t (8 * a + getD firsts k 0) 0 + getD t x 0) e
-      (split-least t whole 4294967295 (8 * a + getD firsts k 0) (omega arith) (omega arith) (sub-deal h l few a (getD firsts k 0) u f))
+      let c : getD toFirst k 0 ≤ l = sub-le (getD toFirst k 0) l f in
+      let e : whole - (8 * a + getD toFirst k 0) ≡ 8 * (h - a) + getD toSecond k 0 = omega (arith, c, g) in
+      subst (λ (x : ℕ). inSplits ≤ getD t (8 * a + getD toFirst k 0) 0 + getD t x 0) e
+      (split-least t whole 4294967295 (8 * a + getD toFirst k 0) (omega arith) (omega arith) (sub-deal h l few a (getD toFirst k 0) u f))
 
   split-off : (p : ℕ) → List·Memᴰ p (partsTo l l) → inSplits ≤ splitOff t whole p
   split-off p m =
       let (a, b, u) = parts-in l l p m in
       omega (arith, split-least t whole 4294967295 p a (omega arith) (subst (λ (x : ℕ). Sub x whole) (let e : 8 * 0 + p ≡ p = omega arith in e) (sub-deal h l few 0 p refl u)))
 
-  pub block-least : leastFrom (splitOff t (8 * h + l)) (leastFrom (laneLeast t h) 4294967295 (rising (counts l) (begins l))) (partsTo l l) ≡ leastFrom (sums t (8 * h + l)) 4294967295 (splits (8 * h + l))
+  pub block-least : leastWith (splitOff t (8 * h + l)) (leastWith (laneLeast t h) 4294967295 (rising (counts l) (begins l))) (partsTo l l) ≡ leastWith (sums t (8 * h + l)) 4294967295 (splits (8 * h + l))
   block-least =
       le-antisymm
       (least-above (sums t whole) inAll 4294967295 (splits whole)
@@ -237,24 +237,24 @@ module _ (t : List ℕ) (h l : ℕ) (some : 0 < h) (few : l < 8) where
       split-off)
 
 pub lanes-least : (t found : List ℕ) (h l v : ℕ) → 0 < h → l < 8 → Lanes t h found
-    → v ≡ leastFrom (splitOff t (8 * h + l)) (leastFrom (λ (k : ℕ). getD found k 0) 4294967295 (rising (counts l) (begins l))) (partsTo l l)
-    → v ≡ leastFrom (sums t (8 * h + l)) 4294967295 (splits (8 * h + l))
+    → v ≡ leastWith (splitOff t (8 * h + l)) (leastWith (λ (k : ℕ). getD found k 0) 4294967295 (rising (counts l) (begins l))) (partsTo l l)
+    → v ≡ leastWith (sums t (8 * h + l)) 4294967295 (splits (8 * h + l))
 lanes-least t found h l v some few lanes e =
     e
-    ∙ ap (λ (x : ℕ). leastFrom (splitOff t (8 * h + l)) x (partsTo l l))
+    ∙ ap (λ (x : ℕ). leastWith (splitOff t (8 * h + l)) x (partsTo l l))
     (least-each (λ (k : ℕ). getD found k 0) (laneLeast t h) 4294967295 (rising (counts l) (begins l)) (λ k m. lanes .least k (lane-fair l few k m .0)))
     ∙ block-least t h l some few
 
 -- ---- the entry of s, with its diameter d
-fold-steps : (d : ℕ) (t : List ℕ) (s top v : ℕ) (l : List ℕ) → foldl (betterAt d t s) (min top (d + v)) l ≡ min top (d + leastFrom (sums t s) v l)
+fold-steps : (d : ℕ) (t : List ℕ) (s top v : ℕ) (l : List ℕ) → foldl (betterAt d t s) (min top (d + v)) l ≡ min top (d + leastWith (sums t s) v l)
 fold-steps d t s top v [] = refl
 fold-steps d t s top v (a ∷ l) =
     ap (λ (x : ℕ). foldl (betterAt d t s) x l) (let e : betterAt d t s (min top (d + v)) a ≡ min top (d + min v (sums t s a)) = omega arith in e)
     ∙ fold-steps d t s top (min v (sums t s a)) l
 
-pub steps-value : (d : ℕ) (t : List ℕ) (s c : ℕ) → c ≡ leastFrom (sums t s) 4294967295 (splits s) → d + c < 4294967295 → d + c ≡ foldl (betterAt d t s) 4294967295 (splits s)
+pub steps-value : (d : ℕ) (t : List ℕ) (s c : ℕ) → c ≡ leastWith (sums t s) 4294967295 (splits s) → d + c < 4294967295 → d + c ≡ foldl (betterAt d t s) 4294967295 (splits s)
 steps-value d t s c e small =
-    let f : d + c ≡ min 4294967295 (d + leastFrom (sums t s) 4294967295 (splits s)) = ap (λ (x : ℕ). d + x) e ∙ within-top (d + leastFrom (sums t s) 4294967295 (splits s)) (subst (λ (x : ℕ). d + x < 4294967295) e small) in
+    let f : d + c ≡ min 4294967295 (d + leastWith (sums t s) 4294967295 (splits s)) = ap (λ (x : ℕ). d + x) e ∙ within-top (d + leastWith (sums t s) 4294967295 (splits s)) (subst (λ (x : ℕ). d + x < 4294967295) e small) in
     let g : min 4294967295 (d + 4294967295) ≡ 4294967295 = omega arith in
     f ∙ sym (fold-steps d t s 4294967295 4294967295 (splits s)) ∙ ap (λ (x : ℕ). foldl (betterAt d t s) x (splits s)) g
   where
@@ -267,7 +267,7 @@ some-sink zero h = absurd (omega arith)
 some-sink (suc x) h = omega arith
 
 -- no more than the lowest sink alone and the rest come to
-pub entry-bound : (t : List ℕ) (s : ℕ) → 0 < s → 2 ≤ ones s → Within s t → leastFrom (sums t s) 4294967295 (splits s) ≤ 6000000 * (ones s - 2)
+pub entry-bound : (t : List ℕ) (s : ℕ) → 0 < s → 2 ≤ ones s → Within s t → leastWith (sums t s) 4294967295 (splits s) ≤ 6000000 * (ones s - 2)
 entry-bound t s pos two small =
     let o : ones s ≡ suc (ones (beyond s)) = ones-low s s pos (self-lt s) in
     let a : s - beyond s ≡ 2 ^ lowest s = omega (arith, low-le s s pos (self-lt s)) in

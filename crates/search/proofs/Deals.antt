@@ -7,7 +7,7 @@ use native.Mathlib.Decide.{decLt, ℕ-discrete}
 use native.Mathlib.Omega.{arith}
 use lib.ListN.{length, getD, set, length-set, length-append, List·getD-append}
 use lib.Seq.{getD-append-add, getD-set-same, getD-set-other}
-use Rattle.search.specs.Blocks.{Deals, Lays, Modest, firsts, seconds}
+use Rattle.search.specs.Blocks.{Deals, Lays, Modest, toFirst, toSecond}
 
 -- what holds of each place and entry of two lists, the second after the first, holds of both together
 pieces : (P : ℕ → ℕ → Type 0) (ls ls′ : List ℕ) → ((j : ℕ) → j < length ls → P j (getD ls j 0)) → ((j : ℕ) → j < length ls′ → P (length ls + j) (getD ls′ j 0))
@@ -80,18 +80,18 @@ or-here P g h l f e = go (decLt g h)
     go (no k) = subst P (let q : h ≡ g = omega arith in q) e
 
 -- all lanes of h
-all-lanes : (t : List ℕ) (h : ℕ) (r r′ : List ℕ) → Lays t (8 * h) firsts seconds (56 * h) r r′ → Deals t h r r′
+all-lanes : (t : List ℕ) (h : ℕ) (r r′ : List ℕ) → Lays t (8 * h) toFirst toSecond (56 * h) r r′ → Deals t h r r′
 all-lanes t h r r′ f = record {
   here = λ d. record {
     first = λ g k p l m.
-        or-here (λ (x : ℕ). getD r′ (56 * x + k) 0 ≡ getD t (8 * x + getD firsts k 0) 0) g h l
+        or-here (λ (x : ℕ). getD r′ (56 * x + k) 0 ≡ getD t (8 * x + getD toFirst k 0) 0) g h l
         (λ q. f .other (56 * g + k) (λ j b e. omega arith) (λ j b e. omega arith) ∙ d .first g k p q m) (f .first k m);
     second = λ g k p l m.
-        or-here (λ (x : ℕ). getD r′ (56 * x + 28 + k) 0 ≡ getD t (8 * x + getD seconds k 0) 0) g h l
+        or-here (λ (x : ℕ). getD r′ (56 * x + 28 + k) 0 ≡ getD t (8 * x + getD toSecond k 0) 0) g h l
         (λ q. f .other (56 * g + 28 + k) (λ j b e. omega arith) (λ j b e. omega arith) ∙ d .second g k p q m) (f .second k m);
   };
   modest = f .modest;
 }
 
-pub lays-all : {t : List ℕ} {h base from : ℕ} {r r′ : List ℕ} → Lays t base firsts seconds from r r′ → base ≡ 8 * h → from ≡ 56 * h → Deals t h r r′
-lays-all {t} {h} {base} {from} {r} {r′} f eb ef = all-lanes t h r r′ (subst₂ (λ (x y : ℕ). Lays t x firsts seconds y r r′) eb ef f)
+pub lays-all : {t : List ℕ} {h base from : ℕ} {r r′ : List ℕ} → Lays t base toFirst toSecond from r r′ → base ≡ 8 * h → from ≡ 56 * h → Deals t h r r′
+lays-all {t} {h} {base} {from} {r} {r′} f eb ef = all-lanes t h r r′ (subst₂ (λ (x y : ℕ). Lays t x toFirst toSecond y r r′) eb ef f)

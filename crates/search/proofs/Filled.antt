@@ -9,7 +9,7 @@ use lib.Bits.{bitAnd}
 use lib.Count.{ones, ones-le}
 use lib.ListN.{length, getD, set}
 use lib.Seq.{getD-set-other, getD-set-same}
-use Rattle.search.specs.Blocks.{Within, leastFrom, partsTo, splitOff}
+use Rattle.search.specs.Blocks.{Within, leastWith, partsTo, splitOff}
 use Rattle.search.specs.Subsets.{rising, splits}
 use Rattle.search.specs.Sums.{sums}
 use Rattle.search.specs.Table.{betterAt, blankOf, pairUp, stepOf, stepsOf}
@@ -26,10 +26,10 @@ pub within-small : (m : ℕ) (t : List ℕ) (i : ℕ) → Within m t → i < m �
 within-small m t i w h k = omega (arith, w i h, ones-le 12 i k)
 
 -- the diameter and the least sum of s: within bounds, and its entry
-pub value-small : (d : ℕ) (t : List ℕ) (s : ℕ) → 0 < s → d ≤ 6000000 → Within s t → 2 ≤ ones s → d + leastFrom (sums t s) 4294967295 (splits s) ≤ 6000000 * (ones s - 1)
+pub value-small : (d : ℕ) (t : List ℕ) (s : ℕ) → 0 < s → d ≤ 6000000 → Within s t → 2 ≤ ones s → d + leastWith (sums t s) 4294967295 (splits s) ≤ 6000000 * (ones s - 1)
 value-small d t s pos short w o = omega (arith, entry-bound t s pos o w)
 
-pub value-is : (d : ℕ) (t : List ℕ) (s c : ℕ) → 0 < s → s < 2 ^ 12 → d ≤ 6000000 → Within s t → 2 ≤ ones s → c ≡ leastFrom (sums t s) 4294967295 (splits s)
+pub value-is : (d : ℕ) (t : List ℕ) (s c : ℕ) → 0 < s → s < 2 ^ 12 → d ≤ 6000000 → Within s t → 2 ≤ ones s → c ≡ leastWith (sums t s) 4294967295 (splits s)
     → d + c ≡ foldl (betterAt d t s) 4294967295 (splits s)
 value-is d t s c pos few short w o e = steps-value d t s c e (omega (arith, value-small d t s pos short w o, ones-le 12 s few))
 
@@ -40,7 +40,7 @@ module _ (δ : ℕ → ℕ) where
     entry-small (no o) =
         let o2 : 2 ≤ ones s = omega arith in
         let e : foldl (betterAt (δ s) t s) (getD t s 0) (splits s) ≡ foldl (betterAt (δ s) t s) 4294967295 (splits s) = ap (λ (v : ℕ). foldl (betterAt (δ s) t s) v (splits s)) (is-blank ∙ large (ones s) o2) in
-        omega (arith, e, value-is (δ s) t s (leastFrom (sums t s) 4294967295 (splits s)) pos few short w o2 refl, value-small (δ s) t s pos short w o2)
+        omega (arith, e, value-is (δ s) t s (leastWith (sums t s) 4294967295 (splits s)) pos few short w o2 refl, value-small (δ s) t s pos short w o2)
 
     -- once its steps are taken it is within bounds as well
     pub within-more : (t2 : List ℕ) → s < length t → t2 ≡ foldl (stepOf δ) t (map (pairUp s) (splits s)) → Within (s + 1) t2
@@ -76,20 +76,20 @@ module _ (δ : ℕ → ℕ) where
 
 -- ---- the least of lanes, and of the parts of low sinks
 
-pub lane-turn : (ss : List ℕ) (end k v w r : ℕ) → k < end → w ≡ min v (getD ss k 0) → leastFrom (λ (j : ℕ). getD ss j 0) v (rising (end - k) k) ≡ r
-    → leastFrom (λ (j : ℕ). getD ss j 0) w (rising (end - (k + 1)) (k + 1)) ≡ r
+pub lane-turn : (ss : List ℕ) (end k v w r : ℕ) → k < end → w ≡ min v (getD ss k 0) → leastWith (λ (j : ℕ). getD ss j 0) v (rising (end - k) k) ≡ r
+    → leastWith (λ (j : ℕ). getD ss j 0) w (rising (end - (k + 1)) (k + 1)) ≡ r
 lane-turn ss end k v w r h e i =
-    ap (λ (x : ℕ). leastFrom (λ (j : ℕ). getD ss j 0) x (rising (end - (k + 1)) (k + 1))) e ∙ ap (leastFrom (λ (j : ℕ). getD ss j 0) v) (sym (rising-cons end k h)) ∙ i
+    ap (λ (x : ℕ). leastWith (λ (j : ℕ). getD ss j 0) x (rising (end - (k + 1)) (k + 1))) e ∙ ap (leastWith (λ (j : ℕ). getD ss j 0) v) (sym (rising-cons end k h)) ∙ i
 
-pub lane-end : (ss : List ℕ) (end k v r : ℕ) → end ≤ k → leastFrom (λ (j : ℕ). getD ss j 0) v (rising (end - k) k) ≡ r → v ≡ r
+pub lane-end : (ss : List ℕ) (end k v r : ℕ) → end ≤ k → leastWith (λ (j : ℕ). getD ss j 0) v (rising (end - k) k) ≡ r → v ≡ r
 unfolding rising
-lane-end ss end k v r h i = ap (λ (m : ℕ). leastFrom (λ (j : ℕ). getD ss j 0) v (rising m k)) (let e : 0 ≡ end - k = omega arith in e) ∙ i
+lane-end ss end k v r h i = ap (λ (m : ℕ). leastWith (λ (j : ℕ). getD ss j 0) v (rising m k)) (let e : 0 ≡ end - k = omega arith in e) ∙ i
 
-pub low-turn : (t : List ℕ) (s low part v w r : ℕ) → 0 < part → Sub part low → w ≡ min v (splitOff t s part) → leastFrom (splitOff t s) v (partsTo low part) ≡ r
-    → leastFrom (splitOff t s) w (partsTo low (bitAnd (part - 1) low)) ≡ r
+pub low-turn : (t : List ℕ) (s low part v w r : ℕ) → 0 < part → Sub part low → w ≡ min v (splitOff t s part) → leastWith (splitOff t s) v (partsTo low part) ≡ r
+    → leastWith (splitOff t s) w (partsTo low (bitAnd (part - 1) low)) ≡ r
 low-turn t s low part v w r h p e i =
-    ap (λ (x : ℕ). leastFrom (splitOff t s) x (partsTo low (bitAnd (part - 1) low))) e ∙ ap (leastFrom (splitOff t s) v) (sym (parts-next low part h p)) ∙ i
+    ap (λ (x : ℕ). leastWith (splitOff t s) x (partsTo low (bitAnd (part - 1) low))) e ∙ ap (leastWith (splitOff t s) v) (sym (parts-next low part h p)) ∙ i
 
-pub low-end : (t : List ℕ) (s low part v r : ℕ) → part ≡ 0 → leastFrom (splitOff t s) v (partsTo low part) ≡ r → v ≡ r
+pub low-end : (t : List ℕ) (s low part v r : ℕ) → part ≡ 0 → leastWith (splitOff t s) v (partsTo low part) ≡ r → v ≡ r
 unfolding partsTo
-low-end t s low part v r e i = ap (λ (x : ℕ). leastFrom (splitOff t s) v (partsTo low x)) (sym e) ∙ i
+low-end t s low part v r e i = ap (λ (x : ℕ). leastWith (splitOff t s) v (partsTo low x)) (sym e) ∙ i

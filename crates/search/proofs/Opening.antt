@@ -9,7 +9,7 @@ use lib.Count.{ones, ones-cat, ones-le}
 use lib.Dec.{ltb}
 use lib.ListN.{length, getD, set}
 use borrow.Author.Tests.{ltb-true}
-use Rattle.search.specs.Blocks.{Dealt, Lanes, Next, Summed, begins, counts, firsts, inLane, leastFrom, partsTo, seconds, splitOff}
+use Rattle.search.specs.Blocks.{Dealt, Lanes, Next, Summed, begins, counts, toFirst, inLane, leastWith, partsTo, toSecond, splitOff}
 use Rattle.search.specs.Square.{held}
 use Rattle.search.specs.Subsets.{rising, splits}
 use Rattle.search.specs.Sums.{beyond, sums}
@@ -35,9 +35,9 @@ eight-get [] k e = omega arith
 eight-get (x ∷ l) zero e = ltb-true x 8 (and-both (ltb x 8) (below-eight l) e .0)
 eight-get (x ∷ l) (suc k) e = eight-get l k (and-both (ltb x 8) (below-eight l) e .1)
 
-pub low-parts : (k : ℕ) → (getD firsts k 0 < 8) × (getD seconds k 0 < 8)
+pub low-parts : (k : ℕ) → (getD toFirst k 0 < 8) × (getD toSecond k 0 < 8)
 unfolding below-eight
-low-parts k = (eight-get firsts k refl, eight-get seconds k refl)
+low-parts k = (eight-get toFirst k refl, eight-get toSecond k refl)
 
 -- the lanes of h read blocks before h
 lanes-kept : (t t2 ss : List ℕ) (h : ℕ) → 0 < h → ((j : ℕ) → j < 8 * h → getD t2 j 0 ≡ getD t j 0) → Lanes t h ss → Lanes t2 h ss
@@ -50,7 +50,7 @@ lanes-kept t t2 ss h pos same s =
           (λ a m.
           let (p, q, u) = parts-at h (splits h) a (parts-splits h pos) m in
           let f = low-parts k in
-          ap₂ (λ (x y : ℕ). x + y) (sym (same (8 * a + getD firsts k 0) (omega (arith, f .0)))) (sym (same (8 * (h - a) + getD seconds k 0) (omega (arith, f .1)))));
+          ap₂ (λ (x y : ℕ). x + y) (sym (same (8 * a + getD toFirst k 0) (omega (arith, f .0)))) (sym (same (8 * (h - a) + getD toSecond k 0) (omega (arith, f .1)))));
     }
 
 pub lanes-start : (t rows s0 ss : List ℕ) (h : ℕ) → 0 < h → length ss ≡ 28 → ((k : ℕ) → k < 28 → getD s0 k 0 ≡ 4294967295) → Dealt t h rows → Summed rows h s0 ss → Lanes t h ss
@@ -60,7 +60,7 @@ lanes-start t rows s0 ss h pos count start dealt summed =
       least = λ k b.
           let f : ℕ → ℕ = λ a. getD rows (56 * a + k) 0 + getD rows (56 * (h - a) + 28 + k) 0 in
           summed .lanes k (omega arith)
-          ∙ ap (λ (v : ℕ). leastFrom f v (splits h)) (start k (omega arith))
+          ∙ ap (λ (v : ℕ). leastWith f v (splits h)) (start k (omega arith))
           ∙ least-each f (inLane t h k) 4294967295 (splits h)
           (λ a m. let (p, q, u) = parts-at h (splits h) a (parts-splits h pos) m in ap₂ (λ (x y : ℕ). x + y) (dealt .first a k p q b) (dealt .second (h - a) k (omega arith) (omega arith) b));
     }
@@ -115,7 +115,7 @@ minus a b = omega arith
 
 -- its entry, from the least of its lanes and of its low parts
 module _ (ds t ss : List ℕ) (h l : ℕ) (n : Next ds t ss h l) (b : l < 8) (o : 2 ≤ ones (8 * h + l)) (d lane v begin end : ℕ) (is-d : d ≡ held ds (8 * h + l))
-    (is-begin : begin ≡ begins l) (is-end : end ≡ begins l + counts l) (is-lane : lane ≡ leastFrom (λ (k : ℕ). getD ss k 0) 4294967295 (rising (end - begin) begin)) (is-v : v ≡ leastFrom (splitOff t (8 * h + l)) lane (partsTo l l)) where
+    (is-begin : begin ≡ begins l) (is-end : end ≡ begins l + counts l) (is-lane : lane ≡ leastWith (λ (k : ℕ). getD ss k 0) 4294967295 (rising (end - begin) begin)) (is-v : v ≡ leastWith (splitOff t (8 * h + l)) lane (partsTo l l)) where
   pos : 0 < 8 * h + l
   pos = omega (arith, n .block .some)
 
@@ -125,12 +125,12 @@ module _ (ds t ss : List ℕ) (h l : ℕ) (n : Next ds t ss h l) (b : l < 8) (o 
   short-d : d ≤ 6000000
   short-d = omega (arith, is-d, n .block .short l b)
 
-  least-is : v ≡ leastFrom (sums t (8 * h + l)) 4294967295 (splits (8 * h + l))
+  least-is : v ≡ leastWith (sums t (8 * h + l)) 4294967295 (splits (8 * h + l))
   least-is =
       lanes-least t ss h l v (n .block .some) b (n .lanes)
       (is-v
-      ∙ ap (λ (x : ℕ). leastFrom (splitOff t (8 * h + l)) x (partsTo l l))
-      (is-lane ∙ ap₂ (λ (k i : ℕ). leastFrom (λ (j : ℕ). getD ss j 0) 4294967295 (rising k i)) (ap₂ (λ (x y : ℕ). x - y) is-end is-begin ∙ minus (begins l) (counts l)) is-begin))
+      ∙ ap (λ (x : ℕ). leastWith (splitOff t (8 * h + l)) x (partsTo l l))
+      (is-lane ∙ ap₂ (λ (k i : ℕ). leastWith (λ (j : ℕ). getD ss j 0) 4294967295 (rising k i)) (ap₂ (λ (x y : ℕ). x - y) is-end is-begin ∙ minus (begins l) (counts l)) is-begin))
 
   pub entry-fits : d + v ≤ 72000000
   entry-fits = omega (arith, least-is, value-small d t (8 * h + l) pos short-d (n .block .within) o, ones-le 12 (8 * h + l) few-low)

@@ -8,7 +8,7 @@ use native.Mathlib.Omega.{arith}
 use lib.ListN.{length, getD, set, length-set}
 use lib.Seq.{getD-set-same, getD-set-other}
 use lib.Bits.{bitAnd, and-le-l, and-self}
-use Rattle.search.specs.Blocks.{Meets, Summed, leastFrom}
+use Rattle.search.specs.Blocks.{Meets, Summed, leastWith}
 use Rattle.search.specs.Subsets.{lowest, splits}
 use Rattle.search.proofs.Digits.{Sub, sub-and, sub-le}
 use Rattle.search.proofs.Lowest.{beyond-lt}
@@ -56,14 +56,14 @@ pub record Lanewise (rows : List ℕ) (h : ℕ) (sums₀ : List ℕ) (other : �
   pub count : length sums ≡ 28
   pub below : other < h
   pub inside : Sub other (h - 2 ^ lowest h)
-  pub least : (k : ℕ) → k < 28 → leastFrom (byRows rows h k) (getD sums k 0) (down h other) ≡ leastFrom (byRows rows h k) (getD sums₀ k 0) (splits h)
+  pub least : (k : ℕ) → k < 28 → leastWith (byRows rows h k) (getD sums k 0) (down h other) ≡ leastWith (byRows rows h k) (getD sums₀ k 0) (splits h)
 
 pub lanewise-start : {rows : List ℕ} {h : ℕ} {sums : List ℕ} {rest : ℕ} → length sums ≡ 28 → 0 < h → rest ≡ h - 2 ^ lowest h → Lanewise rows h sums rest sums
 lanewise-start {rows} {h} {sums} {rest} n pos e = record {
   count = n;
   below = omega (arith, beyond-lt h pos);
   inside = subst (λ (x : ℕ). Sub x (h - 2 ^ lowest h)) (sym e) (and-self (h - 2 ^ lowest h));
-  least = λ k l. ap (leastFrom (byRows rows h k) (getD sums k 0)) (ap (down h) e ∙ sym (splits-rest h pos));
+  least = λ k l. ap (leastWith (byRows rows h k) (getD sums k 0)) (ap (down h) e ∙ sym (splits-rest h pos));
 }
 
 pub lanewise-turn : {rows : List ℕ} {h : ℕ} {sums₀ : List ℕ} {other rest a b : ℕ} {sums sums′ : List ℕ} → 0 < h → rest ≡ h - 2 ^ lowest h → 0 < other
@@ -79,17 +79,17 @@ lanewise-turn {rows} {h} {sums₀} {other} {rest} {a} {b} {sums} {sums′} pos e
     }
   where
     turn : (k : ℕ) → k < 28
-        → leastFrom (byRows rows h k) (getD sums′ k 0) (down h (bitAnd (other - 1) (h - 2 ^ lowest h))) ≡ leastFrom (byRows rows h k) (getD sums₀ k 0) (splits h)
+        → leastWith (byRows rows h k) (getD sums′ k 0) (down h (bitAnd (other - 1) (h - 2 ^ lowest h))) ≡ leastWith (byRows rows h k) (getD sums₀ k 0) (splits h)
     turn k l =
         let w : h - (h - other) ≡ other = omega (arith, sub-le other (h - 2 ^ lowest h) (i .inside)) in
         let e2 : b + k ≡ 56 * (h - (h - other)) + 28 + k = ap (λ (x : ℕ). x + k) eb ∙ ap (λ (x : ℕ). 56 * x + 28 + k) (sym w) in
         let e = m .lanes k l ∙ ap₂ (λ (x y : ℕ). min (getD sums k 0) (getD rows (x + k) 0 + getD rows y 0)) ea e2 in
-        ap (λ (v : ℕ). leastFrom (byRows rows h k) v (down h (bitAnd (other - 1) (h - 2 ^ lowest h)))) e
-        ∙ ap (leastFrom (byRows rows h k) (getD sums k 0)) (sym (down-cons h pos other more (i .inside)))
+        ap (λ (v : ℕ). leastWith (byRows rows h k) v (down h (bitAnd (other - 1) (h - 2 ^ lowest h)))) e
+        ∙ ap (leastWith (byRows rows h k) (getD sums k 0)) (sym (down-cons h pos other more (i .inside)))
         ∙ i .least k l
 
 pub lanewise-end : {rows : List ℕ} {h : ℕ} {sums₀ : List ℕ} {other : ℕ} {sums : List ℕ} → Lanewise rows h sums₀ other sums → other ≡ 0 → Summed rows h sums₀ sums
 unfolding down
 lanewise-end {rows} {h} {sums₀} {other} {sums} i e = record {
-  lanes = λ k l. ap (λ (x : ℕ). leastFrom (byRows rows h k) (getD sums k 0) (down h x)) (sym e) ∙ i .least k l;
+  lanes = λ k l. ap (λ (x : ℕ). leastWith (byRows rows h k) (getD sums k 0) (down h x)) (sym e) ∙ i .least k l;
 }

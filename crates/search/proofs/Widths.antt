@@ -12,7 +12,7 @@ use lib.ListN.{length, getD, set}
 use lib.Seq.{getD-set-same, getD-set-other}
 use lib.Pow.{pow-mono}
 use Rattle.lists.proofs.Tests.{or-lt}
-use Rattle.search.specs.Square.{Changed, Widths, entry, farthestOf, farthestTo, held, reach, widest, widestOf}
+use Rattle.search.specs.Square.{Changed, Widths, entry, farthestOf, farthestTo, held, farthestIn, widest, widestOf}
 use Rattle.search.specs.Subsets.{holds, keep, keepIf, rising, sinksIn}
 
 -- ---- a subset's sinks, the highest last
@@ -83,20 +83,20 @@ module _ (q : List (List ℕ)) where
   widest-last [] j = omega arith
   widest-last (a ∷ l) j = omega (arith, farthest-last (getD q a []) l j, widest-last l j)
 
-  reach-zero : (j : ℕ) → reach q j 0 ≡ 0
-  unfolding reach farthestTo
-  reach-zero j = ap (farthestTo q j) sinks-zero
+  farthest-zero : (j : ℕ) → farthestIn q j 0 ≡ 0
+  unfolding farthestIn farthestTo
+  farthest-zero j = ap (farthestTo q j) sinks-zero
 
-  reach-more : (j i r : ℕ) → i < 32 → r < 2 ^ i → reach q j (2 ^ i + r) ≡ max (reach q j r) (entry q i j)
-  unfolding reach
-  reach-more j i r h k = ap (farthestTo q j) (sinks-last i r h k) ∙ to-last j (sinksIn 32 r) i
+  farthest-more : (j i r : ℕ) → i < 32 → r < 2 ^ i → farthestIn q j (2 ^ i + r) ≡ max (farthestIn q j r) (entry q i j)
+  unfolding farthestIn
+  farthest-more j i r h k = ap (farthestTo q j) (sinks-last i r h k) ∙ to-last j (sinksIn 32 r) i
 
   widest-zero : widest q 0 ≡ 0
   unfolding widest widestOf
   widest-zero = ap (widestOf q) sinks-zero
 
-  widest-more : (j r : ℕ) → j < 32 → r < 2 ^ j → widest q (2 ^ j + r) ≡ max (widest q r) (reach q j r)
-  unfolding widest reach
+  widest-more : (j r : ℕ) → j < 32 → r < 2 ^ j → widest q (2 ^ j + r) ≡ max (widest q r) (farthestIn q j r)
+  unfolding widest farthestIn
   widest-more j r h k = ap (widestOf q) (sinks-last j r h k) ∙ widest-last (sinksIn 32 r) j
 
 -- ---- changed entries
@@ -122,10 +122,10 @@ pub changed-all : {at k n : ℕ} {f : ℕ → ℕ} {a b : List ℕ} → k ≡ n 
 changed-all {at} {k} {n} {f} {a} {b} e c = subst (λ (x : ℕ). Changed at x f a b) e c
 
 -- no sinks
-pub reach-start : (q : List (List ℕ)) (j half : ℕ) (ds : List ℕ) → half < length ds → Changed half 1 (reach q j) ds (set ds half 0)
-reach-start q j half ds h =
+pub farthest-start : (q : List (List ℕ)) (j half : ℕ) (ds : List ℕ) → half < length ds → Changed half 1 (farthestIn q j) ds (set ds half 0)
+farthest-start q j half ds h =
     let e : half + 0 ≡ half = omega arith in
-    subst (λ (x : ℕ). Changed half 1 (reach q j) ds (set ds x 0)) e (changed-more changed-none (omega arith) (sym (reach-zero q j)))
+    subst (λ (x : ℕ). Changed half 1 (farthestIn q j) ds (set ds x 0)) e (changed-more changed-none (omega arith) (sym (farthest-zero q j)))
 
 pub double-is : (i step : ℕ) → step ≡ 2 ^ i → 2 * step ≡ 2 ^ (i + 1)
 double-is i step e = let f : suc i ≡ i + 1 = omega arith in ap (λ (x : ℕ). 2 * x) e ∙ sym (pow-succ' 2 i) ∙ ap (λ (x : ℕ). 2 ^ x) f
@@ -135,21 +135,21 @@ pub double-fits : (i j : ℕ) → i < j → 2 * 2 ^ i ≤ 2 ^ j
 double-fits i j h = let m : 2 ^ suc i ≤ 2 ^ j = pow-mono h in omega (arith, m, pow-succ' 2 i)
 
 -- the distances of one sink more, from those of the sinks before it
-pub reach-doubled : {half step : ℕ} {a b c : List ℕ} (q : List (List ℕ)) (j i : ℕ) → i < 32 → step ≡ 2 ^ i → Changed half step (reach q j) a b
-    → Changed (half + step) step (λ (r : ℕ). max (held b (half + r)) (entry q i j)) b c → Changed half (2 * step) (reach q j) a c
-reach-doubled {half} {step} {a} {b} {c} q j i few size done more = record {
+pub farthest-doubled : {half step : ℕ} {a b c : List ℕ} (q : List (List ℕ)) (j i : ℕ) → i < 32 → step ≡ 2 ^ i → Changed half step (farthestIn q j) a b
+    → Changed (half + step) step (λ (r : ℕ). max (held b (half + r)) (entry q i j)) b c → Changed half (2 * step) (farthestIn q j) a c
+farthest-doubled {half} {step} {a} {b} {c} q j i few size done more = record {
   here = λ r l. new r l (or-lt r step);
   before = λ m l. more .before m (omega arith) ∙ done .before m l;
   after = λ m l. more .after m (omega arith) ∙ done .after m (omega arith);
 }
   where
-    new : (r : ℕ) → r < 2 * step → (r < step) ⊎ (step ≤ r) → held c (half + r) ≡ reach q j r
+    new : (r : ℕ) → r < 2 * step → (r < step) ⊎ (step ≤ r) → held c (half + r) ≡ farthestIn q j r
     new r l (inl h) = more .before (half + r) (omega arith) ∙ done .here r h
     new r l (inr h) =
         let t : ℕ = r - step in
         let e : half + r ≡ half + step + t = omega arith in
         let f : 2 ^ i + t ≡ r = omega arith in
-        ap (held c) e ∙ more .here t (omega arith) ∙ ap (λ (x : ℕ). max x (entry q i j)) (done .here t (omega arith)) ∙ sym (reach-more q j i t few (omega arith)) ∙ ap (reach q j) f
+        ap (held c) e ∙ more .here t (omega arith) ∙ ap (λ (x : ℕ). max x (entry q i j)) (done .here t (omega arith)) ∙ sym (farthest-more q j i t few (omega arith)) ∙ ap (farthestIn q j) f
 
 -- ---- the list of the diameters
 pub widths-start : (q : List (List ℕ)) (ds : List ℕ) → 0 < length ds → Widths q 1 (set ds 0 0)
@@ -158,7 +158,7 @@ widths-start q ds h m k =
     rw e (getD-set-same ds 0 0 0 h ∙ sym (widest-zero q))
 
 -- the subsets with sink j, from those without
-pub widths-doubled : {half : ℕ} {b c : List ℕ} (q : List (List ℕ)) (j : ℕ) (a : List ℕ) → j < 32 → half ≡ 2 ^ j → Widths q half a → Changed half half (reach q j) a b
+pub widths-doubled : {half : ℕ} {b c : List ℕ} (q : List (List ℕ)) (j : ℕ) (a : List ℕ) → j < 32 → half ≡ 2 ^ j → Widths q half a → Changed half half (farthestIn q j) a b
     → Changed half half (λ (r : ℕ). max (held b (half + r)) (held b r)) b c → Widths q (2 * half) c
 widths-doubled {half} {b} {c} q j a few size w far wide m k = go (or-lt m half)
   where
@@ -169,5 +169,5 @@ widths-doubled {half} {b} {c} q j a few size w far wide m k = go (or-lt m half)
         let l : r < half = omega arith in
         let e : m ≡ half + r = omega arith in
         let f : 2 ^ j + r ≡ m = omega arith in
-        let x : max (reach q j r) (widest q r) ≡ max (widest q r) (reach q j r) = omega arith in
+        let x : max (farthestIn q j r) (widest q r) ≡ max (widest q r) (farthestIn q j r) = omega arith in
         ap (held c) e ∙ wide .here r l ∙ ap₂ max (far .here r l) (far .before r l ∙ w r l) ∙ x ∙ sym (widest-more q j r few (omega arith)) ∙ ap (widest q) f

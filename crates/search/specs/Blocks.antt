@@ -10,11 +10,11 @@ use Rattle.search.specs.Square.{held}
 use Rattle.search.specs.Table.{blankOf}
 
 -- what lane k deals to the first part and to the second; the lanes that deal the same sinks stand side by side
-abbrev pub firsts : List ℕ
-firsts = 0 ∷ 1 ∷ 2 ∷ 3 ∷ 4 ∷ 5 ∷ 6 ∷ 7 ∷ 0 ∷ 1 ∷ 2 ∷ 3 ∷ 0 ∷ 1 ∷ 4 ∷ 5 ∷ 0 ∷ 2 ∷ 4 ∷ 6 ∷ 0 ∷ 1 ∷ 0 ∷ 2 ∷ 0 ∷ 4 ∷ 0 ∷ []
+abbrev pub toFirst : List ℕ
+toFirst = 0 ∷ 1 ∷ 2 ∷ 3 ∷ 4 ∷ 5 ∷ 6 ∷ 7 ∷ 0 ∷ 1 ∷ 2 ∷ 3 ∷ 0 ∷ 1 ∷ 4 ∷ 5 ∷ 0 ∷ 2 ∷ 4 ∷ 6 ∷ 0 ∷ 1 ∷ 0 ∷ 2 ∷ 0 ∷ 4 ∷ 0 ∷ []
 
-abbrev pub seconds : List ℕ
-seconds = 7 ∷ 6 ∷ 5 ∷ 4 ∷ 3 ∷ 2 ∷ 1 ∷ 0 ∷ 3 ∷ 2 ∷ 1 ∷ 0 ∷ 5 ∷ 4 ∷ 1 ∷ 0 ∷ 6 ∷ 4 ∷ 2 ∷ 0 ∷ 1 ∷ 0 ∷ 2 ∷ 0 ∷ 4 ∷ 0 ∷ 0 ∷ []
+abbrev pub toSecond : List ℕ
+toSecond = 7 ∷ 6 ∷ 5 ∷ 4 ∷ 3 ∷ 2 ∷ 1 ∷ 0 ∷ 3 ∷ 2 ∷ 1 ∷ 0 ∷ 5 ∷ 4 ∷ 1 ∷ 0 ∷ 6 ∷ 4 ∷ 2 ∷ 0 ∷ 1 ∷ 0 ∷ 2 ∷ 0 ∷ 4 ∷ 0 ∷ 0 ∷ []
 
 -- the lanes that deal the low sinks l begin here, and are so many
 abbrev pub begins : ℕ → ℕ
@@ -24,16 +24,16 @@ abbrev pub counts : ℕ → ℕ
 counts l = getD (1 ∷ 2 ∷ 2 ∷ 4 ∷ 2 ∷ 4 ∷ 4 ∷ 8 ∷ []) l 0
 
 -- the least of v and of f over a list
-abbrev pub leastFrom : (ℕ → ℕ) → ℕ → List ℕ → ℕ
-leastFrom f v l = foldl (λ (w a : ℕ). min w (f a)) v l
+abbrev pub leastWith : (ℕ → ℕ) → ℕ → List ℕ → ℕ
+leastWith f v l = foldl (λ (w a : ℕ). min w (f a)) v l
 
 -- what the split of the high sinks h into a and the rest comes to in lane k, by the table
 abbrev pub inLane : List ℕ → ℕ → ℕ → ℕ → ℕ
-inLane t h k a = getD t (8 * a + getD firsts k 0) 0 + getD t (8 * (h - a) + getD seconds k 0) 0
+inLane t h k a = getD t (8 * a + getD toFirst k 0) 0 + getD t (8 * (h - a) + getD toSecond k 0) 0
 
 -- the least of lane k over all splits of the high sinks
 abbrev pub laneLeast : List ℕ → ℕ → ℕ → ℕ
-laneLeast t h k = leastFrom (inLane t h k) 4294967295 (splits h)
+laneLeast t h k = leastWith (inLane t h k) 4294967295 (splits h)
 
 pub record Lanes (t : List ℕ) (h : ℕ) (sums : List ℕ) : Type 0 where
   pub count : length sums ≡ 28
@@ -58,12 +58,12 @@ pub record Meets (rows : List ℕ) (a b : ℕ) (sums sums′ : List ℕ) : Type 
 
 -- all turns
 pub record Summed (rows : List ℕ) (h : ℕ) (sums sums′ : List ℕ) : Type 0 where
-  pub lanes : (k : ℕ) → k < 28 → getD sums′ k 0 ≡ leastFrom (λ (a : ℕ). getD rows (56 * a + k) 0 + getD rows (56 * (h - a) + 28 + k) 0) (getD sums k 0) (splits h)
+  pub lanes : (k : ℕ) → k < 28 → getD sums′ k 0 ≡ leastWith (λ (a : ℕ). getD rows (56 * a + k) 0 + getD rows (56 * (h - a) + 28 + k) 0) (getD sums k 0) (splits h)
 
 -- each high set below m has two rows: what the table says of the first part by lane, and of the second
 pub record Dealt (t : List ℕ) (m : ℕ) (rows : List ℕ) : Type 0 where
-  pub first : (h k : ℕ) → 0 < h → h < m → k < 27 → getD rows (56 * h + k) 0 ≡ getD t (8 * h + getD firsts k 0) 0
-  pub second : (h k : ℕ) → 0 < h → h < m → k < 27 → getD rows (56 * h + 28 + k) 0 ≡ getD t (8 * h + getD seconds k 0) 0
+  pub first : (h k : ℕ) → 0 < h → h < m → k < 27 → getD rows (56 * h + k) 0 ≡ getD t (8 * h + getD toFirst k 0) 0
+  pub second : (h k : ℕ) → 0 < h → h < m → k < 27 → getD rows (56 * h + 28 + k) 0 ≡ getD t (8 * h + getD toSecond k 0) 0
 
 -- lanes are put in at a place of the first row and 28 further on, in the second: what the table says of the block at `base`, of its low sinks ls and ms
 pub record Lays (t : List ℕ) (base : ℕ) (ls ms : List ℕ) (at : ℕ) (rows rows′ : List ℕ) : Type 0 where

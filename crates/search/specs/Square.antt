@@ -44,8 +44,8 @@ unfoldable pub widest : List (List ℕ) → ℕ → ℕ
 widest q m = widestOf q (sinksIn 32 m)
 
 -- for the code alone: the greatest distance of a sink of a subset to sink j
-unfoldable pub reach : List (List ℕ) → ℕ → ℕ → ℕ
-reach q j m = farthestTo q j (sinksIn 32 m)
+unfoldable pub farthestIn : List (List ℕ) → ℕ → ℕ → ℕ
+farthestIn q j m = farthestTo q j (sinksIn 32 m)
 
 -- for the code alone: k entries from a place on are changed to what f says, and no other
 pub record Changed (at k : ℕ) (f : ℕ → ℕ) (ds ds′ : List ℕ) : Type 0 where

@@ -7,7 +7,7 @@ ghost use lib.ListN.{length, getD};
 ghost use Rattle.search.specs.Subsets.{rising, splits};
 ghost use Rattle.search.specs.Table.{stepOf, stepsOf, pairUp};
 ghost use Rattle.search.specs.Square.{held};
-ghost use Rattle.search.specs.Blocks.{begins, counts, leastFrom, partsTo, splitOff, Within, Modest, Begun, Opened, Next};
+ghost use Rattle.search.specs.Blocks.{begins, counts, leastWith, partsTo, splitOff, Within, Modest, Begun, Opened, Next};
 use crate::lanes;
 use crate::square;
 use crate::subset;
@@ -15,7 +15,7 @@ use crate::subset;
 // The least of the lanes from one place to another.
 fn least_lane(sums: &[u32], from: usize, end: usize) -> u32
     requires { ⌜ (from < end) × (end ≤ length (now sums)) ⌝ }
-    ensures { λ r. ⌜ r ≡ leastFrom (λ k. getD (now (sums .entry)) k 0) 4294967295 (rising (end - from) from) ⌝ }
+    ensures { λ r. ⌜ r ≡ leastWith (λ k. getD (now (sums .entry)) k 0) 4294967295 (rising (end - from) from) ⌝ }
 {
     let mut least = sums[from];
     let mut k = from + 1;
@@ -29,7 +29,7 @@ fn least_lane(sums: &[u32], from: usize, end: usize) -> u32
 // The least of v and of the splits of s into some of its low sinks and the rest.
 fn least_low(table: &[u32], s: u32, low: u32, v: u32) -> u32
     requires { ⌜ (low < 8) × (8 ≤ s) × (s < length (now table)) × (s < 2 ^ 12) × Within s (now table) ⌝ }
-    ensures { λ r. ⌜ r ≡ leastFrom (splitOff (now (table .entry)) s) v (partsTo low low) ⌝ }
+    ensures { λ r. ⌜ r ≡ leastWith (splitOff (now (table .entry)) s) v (partsTo low low) ⌝ }
 {
     let mut least = v;
     let mut part = low;

@@ -4,7 +4,7 @@ ghost use mathlib.Core.Path.{_≡_};
 ghost use mathlib.Core.List.{[], _∷_};
 ghost use Prim.Native.Nat.{_<_, _≤_, _+_, _*_, min};
 ghost use lib.ListN.{length, take, drop};
-ghost use Rattle.search.specs.Blocks.{firsts, seconds, Modest, Meets, Summed, Lays, Deals};
+ghost use Rattle.search.specs.Blocks.{toFirst, toSecond, Modest, Meets, Summed, Lays, Deals};
 use crate::subset;
 
 // The smaller of two.
@@ -83,7 +83,7 @@ fn four(
 // The lanes that deal two of the low sinks or all three.
 fn put_most(table: &[u32], base: usize, rows: &mut [u32], at: usize)
     requires { ⌜ (base + 8 ≤ length (now table)) × (at + 48 ≤ length (now rows)) ⌝ }
-    ensures { λ _. ⌜ Lays (now (table .entry)) base (take 20 firsts) (take 20 seconds) at (now (rows .entry)) (now (rows .exit)) ⌝ }
+    ensures { λ _. ⌜ Lays (now (table .entry)) base (take 20 toFirst) (take 20 toSecond) at (now (rows .entry)) (now (rows .exit)) ⌝ }
 {
     four(table, base, 0, 4, 1, 2, rows, at);
     four(table, base, 4, 0, 1, 2, rows, at + 4);
@@ -95,7 +95,7 @@ fn put_most(table: &[u32], base: usize, rows: &mut [u32], at: usize)
 // The lanes that deal one of them or none.
 fn put_few(table: &[u32], base: usize, rows: &mut [u32], at: usize)
     requires { ⌜ (base + 8 ≤ length (now table)) × (at + 35 ≤ length (now rows)) ⌝ }
-    ensures { λ _. ⌜ Lays (now (table .entry)) base (drop 20 firsts) (drop 20 seconds) at (now (rows .entry)) (now (rows .exit)) ⌝ }
+    ensures { λ _. ⌜ Lays (now (table .entry)) base (drop 20 toFirst) (drop 20 toSecond) at (now (rows .entry)) (now (rows .exit)) ⌝ }
 {
     two(table, base, 0, 0, 1, rows, at);
     two(table, base, 0, 0, 2, rows, at + 2);

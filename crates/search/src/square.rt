@@ -4,7 +4,7 @@ ghost use Prim.Native.Nat.{ℕ, _<_, _≤_, _+_, _^_, max};
 ghost use lib.ListN.{length};
 ghost use Rattle.zero_skew.specs.Plane.{dist};
 ghost use Rattle.plane.specs.Sinks.{sinksAt, Ranged};
-ghost use Rattle.search.specs.Square.{Square, RowOf, Widths, Changed, held, reach};
+ghost use Rattle.search.specs.Square.{Square, RowOf, Widths, Changed, held, farthestIn};
 use crate::subset;
 use plane::bounds;
 use plane::boxes;
@@ -77,7 +77,7 @@ fn stretch(ds: &mut [u32], half: usize, step: usize, w: u32)
 // For every subset r of the sinks before j, how far sink j is from the farthest of them, at half + r. The sinks are taken in one by one, and each doubles the subsets that are done.
 fn farthest(q: [[u32; 12]; 12], ds: &mut [u32], j: usize, half: usize)
     requires { ⌜ (j < 12) × (half ≡ 2 ^ j) × (half + half ≤ length (now ds)) ⌝ }
-    ensures { λ _. ⌜ Changed half half (reach q j) (now (ds .entry)) (now (ds .exit)) ⌝ }
+    ensures { λ _. ⌜ Changed half half (farthestIn q j) (now (ds .entry)) (now (ds .exit)) ⌝ }
 {
     let mut i = 0;
     let mut step = 1;

@@ -4,14 +4,14 @@ use Prim.Native.Nat.{ℕ, _-_, _≤_, _<_}
 use native.Mathlib.Omega.{arith}
 use borrow.Author.Needs.{needs}
 use lib.ListN.{getD}
-use Rattle.search.specs.Blocks.{leastFrom}
+use Rattle.search.specs.Blocks.{leastWith}
 use Rattle.search.specs.Subsets.{rising}
 use Rattle.search.proofs.Filled.{lane-end, lane-turn}
 use Rattle.search.proofs.blocks.least_lane.Statement.{statement}
 use Rattle.search.proofs.blocks.least_lane.Tie as tie
 
 abbrev Inv-loop : tie.InvT-loop
-Inv-loop sums from end least₀ k₀ least k = (from < k) × (k ≤ end) × (leastFrom (λ (j : ℕ). getD sums j 0) least (rising (end - k) k) ≡ leastFrom (λ (j : ℕ). getD sums j 0) 4294967295 (rising (end - from) from))
+Inv-loop sums from end least₀ k₀ least k = (from < k) × (k ≤ end) × (leastWith (λ (j : ℕ). getD sums j 0) least (rising (end - k) k) ≡ leastWith (λ (j : ℕ). getD sums j 0) 4294967295 (rising (end - from) from))
 
 abbrev μ-loop : tie.MeasureT-loop
 μ-loop sums from end least₀ k₀ least k = end - k
@@ -28,7 +28,7 @@ add-k c = omega (arith, c .before .before .pre)
 loop-holds : tie.Need-loop-holds Inv-loop μ-loop
 loop-holds c =
     let a = c .before .before .args in
-    (omega arith, omega (arith, c .before .before .pre .0), lane-turn (a .sums .now) (a .end) (a .from) 4294967295 (getD (a .sums .now) (a .from) 0) (leastFrom (λ (j : ℕ). getD (a .sums .now) j 0) 4294967295 (rising (a .end - a .from) (a .from))) (c .before .before .pre .0) (omega (arith, c .shared-slice-known2 .given (a .from))) refl)
+    (omega arith, omega (arith, c .before .before .pre .0), lane-turn (a .sums .now) (a .end) (a .from) 4294967295 (getD (a .sums .now) (a .from) 0) (leastWith (λ (j : ℕ). getD (a .sums .now) j 0) 4294967295 (rising (a .end - a .from) (a .from))) (c .before .before .pre .0) (omega (arith, c .shared-slice-known2 .given (a .from))) refl)
 
 mul-smaller : tie.Need-mul-smaller Inv-loop μ-loop
 mul-smaller c = omega (arith, c .before .before .before .before .pre)
@@ -49,13 +49,13 @@ loop-again : tie.Need-loop-again Inv-loop μ-loop
 loop-again c =
     let a = c .before .before .before .before .before .before .args in
     let l = c .before .before .before .loop in
-    (omega arith, omega arith, lane-turn (a .sums .now) (a .end) (l .k) (l .least) (c .smaller .result) (leastFrom (λ (j : ℕ). getD (a .sums .now) j 0) 4294967295 (rising (a .end - a .from) (a .from))) (omega arith) (c .smaller .ensures) (l .inv .2))
+    (omega arith, omega arith, lane-turn (a .sums .now) (a .end) (l .k) (l .least) (c .smaller .result) (leastWith (λ (j : ℕ). getD (a .sums .now) j 0) 4294967295 (rising (a .end - a .from) (a .from))) (omega arith) (c .smaller .ensures) (l .inv .2))
 
 returns : tie.Need-returns Inv-loop μ-loop
 returns c =
     let a = c .before .before .before .before .args in
     let l = c .before .loop in
-    lane-end (a .sums .now) (a .end) (l .k) (l .least) (leastFrom (λ (j : ℕ). getD (a .sums .now) j 0) 4294967295 (rising (a .end - a .from) (a .from))) (omega arith) (l .inv .2)
+    lane-end (a .sums .now) (a .end) (l .k) (l .least) (leastWith (λ (j : ℕ). getD (a .sums .now) j 0) 4294967295 (rising (a .end - a .from) (a .from))) (omega arith) (l .inv .2)
 
 pub least-lane-spec : {M : Type 1} → statement M
 least-lane-spec =

@@ -5,14 +5,14 @@ use native.Mathlib.Omega.{arith}
 use borrow.Author.Needs.{needs}
 use lib.Bits.{and-le-l, and-self}
 use lib.ListN.{getD}
-use Rattle.search.specs.Blocks.{leastFrom, partsTo, splitOff}
+use Rattle.search.specs.Blocks.{leastWith, partsTo, splitOff}
 use Rattle.search.proofs.Digits.{Sub, sub-and, sub-le}
 use Rattle.search.proofs.Filled.{low-end, low-turn, within-small}
 use Rattle.search.proofs.blocks.least_low.Statement.{statement}
 use Rattle.search.proofs.blocks.least_low.Tie as tie
 
 abbrev Inv-loop : tie.InvT-loop
-Inv-loop table s low v least₀ part₀ least part = Sub part low × (leastFrom (splitOff table s) least (partsTo low part) ≡ leastFrom (splitOff table s) v (partsTo low low))
+Inv-loop table s low v least₀ part₀ least part = Sub part low × (leastWith (splitOff table s) least (partsTo low part) ≡ leastWith (splitOff table s) v (partsTo low low))
 
 abbrev μ-loop : tie.MeasureT-loop
 μ-loop table s low v least₀ part₀ least part = part
@@ -69,7 +69,7 @@ loop-again c =
     let a = c .before .before .before .before .before .before .before .before .args in
     let l = c .before .before .before .before .before .before .loop in (
       sub-and (a .low) (l .part - 1),
-      low-turn (a .table .now) (a .s) (a .low) (l .part) (l .least) (c .smaller .result) (leastFrom (splitOff (a .table .now) (a .s)) (a .v) (partsTo (a .low) (a .low))) (omega arith) (l .inv .0)
+      low-turn (a .table .now) (a .s) (a .low) (l .part) (l .least) (c .smaller .result) (leastWith (splitOff (a .table .now) (a .s)) (a .v) (partsTo (a .low) (a .low))) (omega arith) (l .inv .0)
           (c .smaller .ensures ∙ ap₂ (λ (x y : ℕ). min (l .least) (getD (a .table .now) x 0 + getD (a .table .now) y 0)) (c .before .before .before .before .place .ensures) (c .before .before .place2 .ensures)) (l .inv .1),
     )
 
@@ -77,7 +77,7 @@ returns : tie.Need-returns Inv-loop μ-loop
 returns c =
     let a = c .before .before .before .args in
     let l = c .before .loop in
-    low-end (a .table .now) (a .s) (a .low) (l .part) (l .least) (leastFrom (splitOff (a .table .now) (a .s)) (a .v) (partsTo (a .low) (a .low))) (omega arith) (l .inv .1)
+    low-end (a .table .now) (a .s) (a .low) (l .part) (l .least) (leastWith (splitOff (a .table .now) (a .s)) (a .v) (partsTo (a .low) (a .low))) (omega arith) (l .inv .1)
 
 pub least-low-spec : {M : Type 1} → statement M
 least-low-spec =

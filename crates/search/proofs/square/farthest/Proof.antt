@@ -5,13 +5,13 @@ use Prim.Native.Nat.{ℕ, _^_, _≤_, _-_}
 use native.Mathlib.Omega.{arith}
 use lib.ListN.{length, length-set}
 use lib.Pow.{pow-pos}
-use Rattle.search.specs.Square.{Changed, reach}
-use Rattle.search.proofs.Widths.{changed-all, double-fits, double-is, reach-doubled, reach-start}
+use Rattle.search.specs.Square.{Changed, farthestIn}
+use Rattle.search.proofs.Widths.{changed-all, double-fits, double-is, farthest-doubled, farthest-start}
 use Rattle.search.proofs.square.farthest.Statement.{statement}
 use Rattle.search.proofs.square.farthest.Tie as tie
 
 abbrev Inv-loop : tie.InvT-loop
-Inv-loop ds₀ j half q i₀ step₀ ds i step = (i ≤ j) × (step ≡ 2 ^ i) × (length ds ≡ length ds₀) × ((a : List ℕ) → Changed half 1 (reach q j) a ds₀ → Changed half step (reach q j) a ds)
+Inv-loop ds₀ j half q i₀ step₀ ds i step = (i ≤ j) × (step ≡ 2 ^ i) × (length ds ≡ length ds₀) × ((a : List ℕ) → Changed half 1 (farthestIn q j) a ds₀ → Changed half step (farthestIn q j) a ds)
 
 abbrev μ-loop : tie.MeasureT-loop
 μ-loop ds₀ j half q i₀ step₀ ds i step = j - i
@@ -56,7 +56,7 @@ loop-again c =
       omega arith,
       double-is (l .i) (l .step) (l .inv .1),
       s .kept .0 ∙ l .inv .2,
-      λ a h. reach-doubled (c .before .before .before .before .before .before .before .before .args .t1) (c .before .before .before .before .before .before .before .before .args .j) (l .i) (omega arith) (l .inv .1) (l .inv .3 a h) (s .ensures),
+      λ a h. farthest-doubled (c .before .before .before .before .before .before .before .before .args .t1) (c .before .before .before .before .before .before .before .before .args .j) (l .i) (omega arith) (l .inv .1) (l .inv .3 a h) (s .ensures),
     )
 
 same-length : tie.Need-same-length Inv-loop μ-loop
@@ -68,7 +68,7 @@ returns c =
     let l = c .before .loop in
     let e : l .i ≡ a .j = omega arith in
     let f : l .step ≡ a .half = l .inv .1 ∙ ap (λ (x : ℕ). 2 ^ x) e ∙ sym (c .before .before .before .pre .1) in
-    changed-all f (l .inv .3 (a .ds .now) (reach-start (a .t1) (a .j) (a .half) (a .ds .now) (omega (arith, pow-pos (a .j)))))
+    changed-all f (l .inv .3 (a .ds .now) (farthest-start (a .t1) (a .j) (a .half) (a .ds .now) (omega (arith, pow-pos (a .j)))))
 
 pub farthest-spec : {M : Type 1} → statement M
 farthest-spec =
