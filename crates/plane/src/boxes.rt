@@ -61,9 +61,9 @@ pub fn breadth(b: Box) -> u32
     requires { ⌜ InOrder b ⌝ }
     ensures { λ r. ⌜ r ≡ diamOf b ⌝ }
 {
-    let wu = measure::rise(b.lu, b.hu);
-    let wv = measure::rise(b.lv, b.hv);
-    if wu <= wv { wv } else { wu }
+    let ru = measure::rise(b.lu, b.hu);
+    let rv = measure::rise(b.lv, b.hv);
+    if ru <= rv { rv } else { ru }
 }
 
 // A box as four numbers in memory that a caller keeps, and the box that four numbers stand for: any four do.
