@@ -4,11 +4,14 @@
  * Link with libskeprafter_c.a (x86-64). All that a call leaves behind is in
  * what it was lent.
  *
- * Measures. A sink has whole x and y from -1,000,000 to 1,000,000, in grid
- * units; several sinks may share a place. Its tilted coordinates are
- * u = x + y and v = x - y. Places of tree nodes are stored doubled: U = 2u,
- * V = 2v. Lengths (wires, totals) count HALF grid units. Plane position in
- * quarters of a grid unit: U + V for x, U - V for y.
+ * Measures. A sink has whole x and y from -1,000,000 to 1,000,000 and a whole
+ * delay w from 0 to 1,000,000, in grid units; several sinks may share a place.
+ * The clock is to reach every sink over a path whose length plus the sink's
+ * delay is the same for all. A sink's tilted coordinates are u = x + y and
+ * v = x - y, and its box runs from u - w to u + w and from v - w to v + w.
+ * Places of tree nodes are stored doubled: U = 2u, V = 2v. Lengths (wires,
+ * totals) count HALF grid units. Plane position in quarters of a grid unit:
+ * U + V for x, U - V for y.
  *
  * Nodes. Of n sinks, nodes 0 to n-1 are the sinks in input order and nodes n
  * to 2n-2 are the joins; the last node is the root (sink 0 where n = 1). A
@@ -24,7 +27,7 @@
  * from the front of each lent list; a longer list keeps the rest. A refused
  * call changes nothing but `said`. The numbers, and the place with each:
  *
- *   1  the lists of x and y differ in length             no place
+ *   1  the lists of x, y and delays differ in length     no place
  *   2  no sink                                           no place
  *   3  over 512 sinks (over 12 for the search)           no place
  *   4  a coordinate outside its range                    the lowest such sink
@@ -37,6 +40,7 @@
  *   8  a file is not of the form                         a byte offset
  *   9  tags 4 or 5 are not what embedding gives          wrong count: no place;
  *                                                        else the lowest node
+ *  15  a delay outside its range                         the lowest such sink
  *
  * Places count from 0, and place 0 is a place: look at said[1] to tell it
  * from none. Where several refusals apply, the first in the order named at
@@ -70,18 +74,21 @@ enum {
 /* ------------------------------------------------------------- boxes --- */
 
 /*
- * The box of all sinks: least and greatest u, least and greatest v. Its four
- * raw numbers go to `box`; read them with skeprafter_ends only.
- * Refusals: 1 to 4. Value: 0.
+ * The box of all sinks, least and greatest u, least and greatest v: each the
+ * least or greatest end of a sink's own box. Its four raw numbers go to `box`;
+ * read them with skeprafter_ends only.
+ * Refusals: 1 to 4, 15. Value: 0.
  */
 void skeprafter_box_of(const int32_t *x, size_t nx, const int32_t *y, size_t ny,
-                       uint32_t box[4], uint64_t said[6]);
+                       const uint32_t *delays, size_t nd, uint32_t box[4],
+                       uint64_t said[6]);
 
 /*
  * Widens a held box where it stands by one more sink.
- * Refusals: 4, place 0, for a sink outside its range. Value: 0.
+ * Refusals: 4, then 15, place 0, for a sink outside its range. Value: 0.
  */
-void skeprafter_widen(uint32_t box[4], int32_t x, int32_t y, uint64_t said[6]);
+void skeprafter_widen(uint32_t box[4], int32_t x, int32_t y, uint32_t delay,
+                      uint64_t said[6]);
 
 /*
  * The ends of a held box, in tilted coordinates: least u, greatest u, least
@@ -91,8 +98,9 @@ void skeprafter_ends(const uint32_t box[4], int64_t ends[4]);
 
 /*
  * The diameter of a held box: the larger of the two absolute differences of
- * its ends. For a box of sinks it is their greatest Manhattan distance, in
- * grid units. Never refuses.
+ * its ends. For a box of sinks it is, in grid units, the greatest of what two
+ * of them are apart (their Manhattan distance plus both delays) and of twice
+ * the delay of one. Never refuses.
  */
 uint32_t skeprafter_diameter(const uint32_t box[4]);
 
@@ -101,31 +109,32 @@ uint32_t skeprafter_diameter(const uint32_t box[4]);
 /*
  * Embeds a given joining order. Fills 2n-1 entries each of u and v (doubled
  * places) and of wires (the wire to the parent; the root's is 0).
- * Refusals: 1 to 4, 6, 7. Value: the total wire in half units.
+ * Refusals: 1 to 4, 15, 6, 7. Value: the total wire in half units.
  */
 void skeprafter_embed(const int32_t *x, size_t nx, const int32_t *y, size_t ny,
-                      const uint16_t *joins, size_t nj, int32_t *u, size_t nu,
-                      int32_t *v, size_t nv, uint32_t *wires, size_t nw,
-                      uint64_t said[6]);
+                      const uint32_t *delays, size_t nd, const uint16_t *joins,
+                      size_t nj, int32_t *u, size_t nu, int32_t *v, size_t nv,
+                      uint32_t *wires, size_t nw, uint64_t said[6]);
 
 /*
  * Joins by least diameter: again and again the two live nodes whose union has
  * the least diameter, then the lower first, then the lower second number.
  * Fills 2(n-1) entries of joins, lower number first in each pair.
- * Refusals: 1 to 4, 7. Value: 0.
+ * Refusals: 1 to 4, 15, 7. Value: 0.
  */
 void skeprafter_join_nearest(const int32_t *x, size_t nx, const int32_t *y, size_t ny,
-                             uint16_t *joins, size_t nj, uint64_t said[6]);
+                             const uint32_t *delays, size_t nd, uint16_t *joins,
+                             size_t nj, uint64_t said[6]);
 
 /*
  * Joins by least diameter and embeds the result. Fills 2(n-1) entries of
  * joins and 2n-1 each of u, v and wires.
- * Refusals: 1 to 4, 7. Value: the total wire in half units.
+ * Refusals: 1 to 4, 15, 7. Value: the total wire in half units.
  */
 void skeprafter_embed_nearest(const int32_t *x, size_t nx, const int32_t *y, size_t ny,
-                              uint16_t *joins, size_t nj, int32_t *u, size_t nu,
-                              int32_t *v, size_t nv, uint32_t *wires, size_t nw,
-                              uint64_t said[6]);
+                              const uint32_t *delays, size_t nd, uint16_t *joins,
+                              size_t nj, int32_t *u, size_t nu, int32_t *v, size_t nv,
+                              uint32_t *wires, size_t nw, uint64_t said[6]);
 
 /*
  * The exact search over subsets, for at most 12 sinks. It examines splits
@@ -137,15 +146,21 @@ void skeprafter_embed_nearest(const int32_t *x, size_t nx, const int32_t *y, siz
  * its best, the one in progress its diameter plus the least sum examined so
  * far, one of two or more sinks without an examined split UINT32_MAX, and the
  * empty set and single sinks 0.
- * Refusals: 1 to 4 with 3 from 13 sinks on, 7. Value: the total wire in half
+ * Refusals: 1 to 4 with 3 from 13 sinks on, 15, 7. Value: the total wire in half
  * units; steps: the smaller of budget and F(n); proven: 1 or 0.
  */
 void skeprafter_search(const int32_t *x, size_t nx, const int32_t *y, size_t ny,
-                       uint64_t budget, uint32_t *table, size_t nt, uint16_t *joins,
-                       size_t nj, int32_t *u, size_t nu, int32_t *v, size_t nv,
-                       uint32_t *wires, size_t nw, uint64_t said[6]);
+                       const uint32_t *delays, size_t nd, uint64_t budget,
+                       uint32_t *table, size_t nt, uint16_t *joins, size_t nj,
+                       int32_t *u, size_t nu, int32_t *v, size_t nv, uint32_t *wires,
+                       size_t nw, uint64_t said[6]);
 
 /* ------------------------------------------------------------- files --- */
+
+/*
+ * Files hold no delays: every sink of a file has delay 0, and its writers and
+ * readers take and give none.
+ */
 
 /*
  * Writes a sink file (tags 1, 2): 7 + 8n bytes of out.

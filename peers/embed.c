@@ -22,19 +22,20 @@ static inline int32_t nearest(const int32_t *end, int32_t d, int32_t to)
     return lesser(greater(to, 2 * end[1] - d), d - 2 * end[0]);
 }
 
-uint64_t peer_embed(const int32_t *x, const int32_t *y, size_t n, const uint16_t *joins,
-                    int32_t *u, int32_t *v, uint32_t *wires)
+uint64_t peer_embed(const int32_t *x, const int32_t *y, const uint32_t *delays, size_t n,
+                    const uint16_t *joins, int32_t *u, int32_t *v, uint32_t *wires)
 {
     Box boxes[1023];
     int32_t d[1023];
     uint16_t parent[1023] = {0}; /* no node has parent 0 */
-    uint32_t total = 0;
-    if (!peer_in_range(x, y, n))
+    uint32_t total = 0;          /* wraps around on the way */
+    if (!peer_in_range(x, y, delays, n))
         return PEER_REFUSED;
     for (size_t i = 0; i < n; i++) {
-        int32_t su = x[i] + y[i], sv = x[i] - y[i];
-        boxes[i] = (Box){{-su, su, -sv, sv}};
-        d[i] = 0;
+        const int32_t w = (int32_t)delays[i], su = x[i] + y[i], sv = x[i] - y[i];
+        boxes[i] = (Box){{w - su, w + su, w - sv, w + sv}};
+        d[i] = 2 * w;
+        total -= (uint32_t)d[i];
     }
     const size_t root = 2 * n - 2;
     for (size_t i = n; i <= root; i++) {
@@ -64,5 +65,6 @@ uint64_t peer_embed(const int32_t *x, const int32_t *y, size_t n, const uint16_t
     for (size_t i = 0; i < root; i++)
         wires[i] = (uint32_t)(d[parent[i]] - d[i]);
     wires[root] = 0;
-    return total + (uint32_t)d[root];
+    total += (uint32_t)d[root];
+    return total;
 }

@@ -40,13 +40,15 @@ typedef struct {
     int32_t end[4][64];
 } Boxes;
 
-static void subset_boxes(const int32_t *x, const int32_t *y, size_t n, Boxes *boxes)
+static void subset_boxes(const int32_t *x, const int32_t *y, const uint32_t *delays, size_t n,
+                         Boxes *boxes)
 {
     for (int k = 0; k < 4; k++)
         boxes->end[k][0] = -4000000;
     for (size_t sink = 0; sink < n; sink++) {
         const int32_t u = x[sink] + y[sink], v = x[sink] - y[sink];
-        const int32_t own[4] = {-u, u, -v, v};
+        const int32_t w = (int32_t)delays[sink];
+        const int32_t own[4] = {w - u, w + u, w - v, w + v};
         const size_t half = (size_t)1 << sink;
         for (int k = 0; k < 4; k++)
             for (size_t s = 0; s < half; s++)
@@ -55,12 +57,13 @@ static void subset_boxes(const int32_t *x, const int32_t *y, size_t n, Boxes *bo
 }
 
 /* The diameters of all subsets; those of the empty set do not matter. */
-static void subset_diameters(const int32_t *x, const int32_t *y, size_t n, int32_t *d)
+static void subset_diameters(const int32_t *x, const int32_t *y, const uint32_t *delays,
+                             size_t n, int32_t *d)
 {
     const size_t few = n < 6 ? n : 6;
     Boxes low, high;
-    subset_boxes(x, y, few, &low);
-    subset_boxes(x + few, y + few, n - few, &high);
+    subset_boxes(x, y, delays, few, &low);
+    subset_boxes(x + few, y + few, delays + few, n - few, &high);
     for (size_t h = 0; h < (size_t)1 << (n - few); h++) {
         const int32_t a = high.end[0][h], b = high.end[1][h];
         const int32_t c = high.end[2][h], e = high.end[3][h];
@@ -177,15 +180,16 @@ static size_t number_subset(Numbering *numbering, size_t subset)
     return numbering->next++;
 }
 
-uint64_t peer_search(const int32_t *x, const int32_t *y, size_t n, uint32_t *table,
-                     uint16_t *joins, int32_t *u, int32_t *v, uint32_t *wires)
+uint64_t peer_search(const int32_t *x, const int32_t *y, const uint32_t *delays, size_t n,
+                     uint32_t *table, uint16_t *joins, int32_t *u, int32_t *v,
+                     uint32_t *wires)
 {
     int32_t d[1 << 12];
-    if (!peer_in_range(x, y, n))
+    if (!peer_in_range(x, y, delays, n))
         return PEER_REFUSED;
-    subset_diameters(x, y, n, d);
+    subset_diameters(x, y, delays, n, d);
     fill_table(d, n, table);
     Numbering numbering = {table, d, joins, n};
     number_subset(&numbering, ((size_t)1 << n) - 1);
-    return peer_embed(x, y, n, joins, u, v, wires);
+    return peer_embed(x, y, delays, n, joins, u, v, wires);
 }

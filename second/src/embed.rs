@@ -49,28 +49,34 @@ impl Embedding {
 }
 
 /// Embeds the joining order into the lent buffers and gives the total in
-/// half units, with refusals 1 to 4, 6 and 7 in order.
-pub fn embed(x: &[i32], y: &[i32], joins: &[u16], lent: Lent<'_>) -> Result<u32, Refusal> {
-    plane::check_sinks(x, y, plane::MOST_SINKS)?;
+/// half units, with refusals 1 to 4, 15, 6 and 7 in order.
+pub fn embed(
+    x: &[i32],
+    y: &[i32],
+    delays: &[u32],
+    joins: &[u16],
+    lent: Lent<'_>,
+) -> Result<u32, Refusal> {
+    plane::check_sinks(x, y, delays, plane::MOST_SINKS)?;
     joins::check(x.len(), joins)?;
     lent.check(x.len())?;
-    Ok(work_out(x, y, joins).hand_out(lent))
+    Ok(work_out(x, y, delays, joins).hand_out(lent))
 }
 
 /// The embedding of checked sinks and joins.
-pub(crate) fn work_out(x: &[i32], y: &[i32], joins: &[u16]) -> Embedding {
-    let boxes = node_boxes(x, y, joins);
+pub(crate) fn work_out(x: &[i32], y: &[i32], delays: &[u32], joins: &[u16]) -> Embedding {
+    let boxes = node_boxes(x, y, delays, joins);
     let parents = joins::parents(x.len(), joins);
     Embedding {
         places: node_places(&boxes, &parents),
         wires: node_wires(&boxes, &parents),
-        total: total(&boxes[x.len()..]),
+        total: total(&boxes, delays),
     }
 }
 
 /// The box of every node, sinks first; a join's children come before it.
-fn node_boxes(x: &[i32], y: &[i32], joins: &[u16]) -> Vec<TiltedBox> {
-    let mut boxes = plane::sink_boxes(x, y);
+fn node_boxes(x: &[i32], y: &[i32], delays: &[u32], joins: &[u16]) -> Vec<TiltedBox> {
+    let mut boxes = plane::sink_boxes(x, y, delays);
     for pair in joins.chunks_exact(2) {
         let (a, b) = (boxes[usize::from(pair[0])], boxes[usize::from(pair[1])]);
         boxes.push(a.hull(b));
@@ -101,22 +107,38 @@ fn node_wires(boxes: &[TiltedBox], parents: &[Option<usize>]) -> Vec<u32> {
     parents.iter().enumerate().map(wire).collect()
 }
 
-/// The sum of the joins' diameters, plus the root's once more. A tree of one
-/// sink has no join and its root's diameter is 0.
-fn total(join_boxes: &[TiltedBox]) -> u32 {
-    let sum: i64 = join_boxes.iter().map(|b| b.diameter()).sum();
-    let root = join_boxes.last().map_or(0, |b| b.diameter());
-    // 512 diameters of at most 4,000,000 stay within 2,048,000,000.
-    (sum + root) as u32
+/// The sum of the joins' diameters, plus the root's once more, minus twice
+/// the sum of the delays. A tree of one sink has no join, and its root's
+/// diameter is just twice its delay.
+fn total(boxes: &[TiltedBox], delays: &[u32]) -> u32 {
+    let joins = &boxes[delays.len()..];
+    let sum: i64 = joins.iter().map(|b| b.diameter()).sum();
+    let root = boxes[boxes.len() - 1].diameter();
+    let waits: i64 = delays.iter().map(|&delay| i64::from(delay)).sum();
+    // 512 diameters of at most 6,000,000 stay within 3,072,000,000; and no
+    // more is taken off than is there, since the total is a sum of wires.
+    (sum + root - 2 * waits) as u32
 }
 
 #[cfg(test)]
 mod tests {
     use super::*;
-    use crate::generate::{good_joins, sinks, Random, SinkKind};
+    use crate::generate::{delays, good_joins, sinks, DelayKind, Random, SinkKind};
+    use crate::plane::no_delays;
+
+    /// Sinks without delay, embedded as `run_delayed` does.
+    fn run(x: &[i32], y: &[i32], joins: &[u16], lengths: [usize; 3]) -> Outcome {
+        run_delayed(x, y, &no_delays(x.len()), joins, lengths)
+    }
 
     /// Runs an embedding with buffers of the given lengths full of sevens.
-    fn run(x: &[i32], y: &[i32], joins: &[u16], lengths: [usize; 3]) -> Outcome {
+    fn run_delayed(
+        x: &[i32],
+        y: &[i32],
+        delays: &[u32],
+        joins: &[u16],
+        lengths: [usize; 3],
+    ) -> Outcome {
         let mut u = vec![7; lengths[0]];
         let mut v = vec![7; lengths[1]];
         let mut wires = vec![7; lengths[2]];
@@ -125,7 +147,7 @@ mod tests {
             v: &mut v,
             wires: &mut wires,
         };
-        let answer = embed(x, y, joins, lent);
+        let answer = embed(x, y, delays, joins, lent);
         Outcome {
             answer,
             u,
@@ -143,6 +165,9 @@ mod tests {
 
     /// Sinks, joins, length of every buffer, and the refusal to come.
     type Refused<'a> = (&'a [i32], &'a [i32], &'a [u16], usize, Refusal);
+
+    /// The list of x, delays, joins, and the refusal to come.
+    type Delayed<'a> = (&'a [i32], &'a [u32], &'a [u16], Refusal);
 
     fn is_untouched(outcome: &Outcome) -> bool {
         outcome.u.iter().all(|&e| e == 7)
@@ -183,6 +208,45 @@ mod tests {
     }
 
     #[test]
+    fn a_delay_outside_its_range_comes_after_places_and_before_joins() {
+        let (x, y, good) = ([0, 4, 7], [0, 0, 0], [0, 1, 3, 2]);
+        let far = [0, 4, -1_000_001];
+        let cases: [Delayed; 7] = [
+            (&x, &[0, 0], &good, Refusal::ListsDiffer),
+            (&x, &[], &[1], Refusal::ListsDiffer),
+            (&x, &[0, 0, u32::MAX, 0], &good, Refusal::ListsDiffer),
+            (&far, &[0, 0, 1_000_001], &good, Refusal::OutOfRange(2)),
+            (&far, &[1 << 31, 0, 0], &good, Refusal::OutOfRange(2)),
+            (
+                &x,
+                &[0, 1_000_001, u32::MAX],
+                &good,
+                Refusal::DelayOutOfRange(1),
+            ),
+            (
+                &x,
+                &[1_000_001, 0, 0],
+                &[0, 0, 9],
+                Refusal::DelayOutOfRange(0),
+            ),
+        ];
+        for (x, delays, joins, refusal) in cases {
+            for length in [0, 5, 9] {
+                let outcome = run_delayed(x, &y, delays, joins, [length; 3]);
+                assert_eq!(outcome.answer, Err(refusal));
+                assert!(is_untouched(&outcome));
+            }
+        }
+        // With good delays the joins are next, then the buffers.
+        let most = [1_000_000; 3];
+        let joins = run_delayed(&x, &y, &most, &[0, 0, 3, 2], [0; 3]);
+        assert_eq!(joins.answer, Err(Refusal::WrongJoins(0)));
+        let short = run_delayed(&x, &y, &most, &good, [4; 3]);
+        assert_eq!(short.answer, Err(Refusal::ShortBuffer));
+        assert!(is_untouched(&short));
+    }
+
+    #[test]
     fn only_the_front_entries_change() {
         let outcome = run(&[0, 4], &[0, 0], &[0, 1], [3, 4, 6]);
         assert_eq!(outcome.answer, Ok(8));
@@ -191,12 +255,12 @@ mod tests {
         assert_eq!(outcome.wires, [4, 4, 0, 7, 7, 7]);
     }
 
-    /// Wires no shorter than distances, equal paths, total the sum of wires.
-    fn check_tree(x: &[i32], y: &[i32], joins: &[u16]) {
-        let tree = work_out(x, y, joins);
+    /// Wires no shorter than distances, equal arrival, total the sum of wires.
+    fn check_tree(x: &[i32], y: &[i32], delays: &[u32], joins: &[u16]) {
+        let tree = work_out(x, y, delays, joins);
         let n = x.len();
         let parents = joins::parents(n, joins);
-        let boxes = node_boxes(x, y, joins);
+        let boxes = node_boxes(x, y, delays, joins);
         let height = boxes[2 * n - 2].diameter();
         let mut sum = 0;
         for node in 0..2 * n - 1 {
@@ -212,7 +276,8 @@ mod tests {
         for sink in 0..n {
             assert_eq!(tree.places[sink].u.0, 2 * (x[sink] + y[sink]));
             assert_eq!(tree.places[sink].v.0, 2 * (x[sink] - y[sink]));
-            assert_eq!(path_length(sink, &tree, &parents), height);
+            let path = path_length(sink, &tree, &parents);
+            assert_eq!(path + 2 * i64::from(delays[sink]), height);
         }
     }
 
@@ -234,7 +299,10 @@ mod tests {
             for kind in SinkKind::GOOD {
                 let (x, y) = sinks(&mut random, kind, n);
                 let joins = good_joins(&mut random, n);
-                check_tree(&x, &y, &joins);
+                check_tree(&x, &y, &no_delays(n), &joins);
+                let kind = DelayKind::GOOD[round % DelayKind::GOOD.len()];
+                let waits = delays(&mut random, kind, &x, &y);
+                check_tree(&x, &y, &waits, &joins);
             }
         }
     }
@@ -251,5 +319,90 @@ mod tests {
         }
         let outcome = run(&x, &y, &joins, [1023; 3]);
         assert_eq!(outcome.answer, Ok(2_048_000_000));
+        // With the greatest delay at all sinks each of 512 diameters is
+        // 2,000,000 more, and just so much is taken off again.
+        let outcome = run_delayed(&x, &y, &[1_000_000; 512], &joins, [1023; 3]);
+        assert_eq!(outcome.answer, Ok(2_048_000_000));
+        // With those two delays alone 4,000,000 is taken off 3,072,000,000.
+        let mut delays = [0; 512];
+        (delays[0], delays[1]) = (1_000_000, 1_000_000);
+        let outcome = run_delayed(&x, &y, &delays, &joins, [1023; 3]);
+        assert_eq!(outcome.answer, Ok(3_068_000_000));
+        // The two sinks in the corners have a wire of 4,000,000 each, the
+        // joins have none, and all others have the whole 6,000,000.
+        assert_eq!(outcome.wires[..3], [4_000_000, 4_000_000, 6_000_000]);
+        assert_eq!(outcome.wires[511..513], [6_000_000, 0]);
+    }
+
+    #[test]
+    fn one_delayed_sink_stands_on_its_place_without_wire() {
+        // d = 2 * 4 = 8, and twice the delay is taken off: 0.
+        let outcome = run_delayed(&[3], &[-5], &[4], &[], [1; 3]);
+        assert_eq!(outcome.answer, Ok(0));
+        assert_eq!((outcome.u[0], outcome.v[0], outcome.wires[0]), (-4, 16, 0));
+        let most = run_delayed(&[1_000_000], &[1_000_000], &[1_000_000], &[], [1; 3]);
+        assert_eq!(most.answer, Ok(0));
+        assert_eq!((most.u[0], most.v[0], most.wires[0]), (4_000_000, 0, 0));
+    }
+
+    #[test]
+    fn two_delayed_sinks() {
+        // The box is -3 to 11, d = 14, the root 2 * 11 - 14 = 8. Wires: 14 - 6
+        // and 14 - 2. Total: 14 + 14 - 2 * 4.
+        let outcome = run_delayed(&[0, 10], &[0, 0], &[3, 1], &[0, 1], [3; 3]);
+        assert_eq!(outcome.answer, Ok(20));
+        assert_eq!((outcome.u, outcome.v), (vec![0, 20, 8], vec![0, 20, 8]));
+        assert_eq!(outcome.wires, [8, 12, 0]);
+    }
+
+    #[test]
+    fn a_swallowed_sink_has_all_the_wire() {
+        // The box is that of sink 0, -10 to 10, d = 20: the root stands on the
+        // sink, which has a wire of 20 - 20, and the other has 20 - 0 for a
+        // distance of 6: it snakes 14. Total: 20 + 20 - 2 * 10.
+        let outcome = run_delayed(&[0, 3], &[0, 0], &[10, 0], &[0, 1], [3; 3]);
+        assert_eq!(outcome.answer, Ok(20));
+        assert_eq!((outcome.u, outcome.v), (vec![0, 6, 0], vec![0, 6, 0]));
+        assert_eq!(outcome.wires, [0, 20, 0]);
+        // With 7 it ends where the box does: 20 - 14 = 6 is just its distance.
+        let outcome = run_delayed(&[0, 3], &[0, 0], &[10, 7], &[0, 1], [3; 3]);
+        assert_eq!(outcome.answer, Ok(6));
+        assert_eq!(outcome.wires, [0, 6, 0]);
+        // With 8 the box is -10 to 11, d = 21, the root 2 * 11 - 21 = 1.
+        let outcome = run_delayed(&[0, 3], &[0, 0], &[10, 8], &[0, 1], [3; 3]);
+        assert_eq!(outcome.answer, Ok(6));
+        assert_eq!((outcome.u, outcome.v), (vec![0, 6, 1], vec![0, 6, 1]));
+        assert_eq!(outcome.wires, [1, 5, 0]);
+    }
+
+    #[test]
+    fn a_join_within_a_delayed_sink_is_swallowed_whole() {
+        // Sinks 1 and 2 make a join of d = 4 at U = V = 4. Sink 0 reaches from
+        // -20 to 20 and holds it: d = 40, the root stands on sink 0. Wires:
+        // 40 - 40, 4, 4, and 40 - 4 from the join. Total: 4 + 40 + 40 - 40.
+        let (x, delays) = ([0, 0, 4], [20, 0, 0]);
+        let outcome = run_delayed(&x, &[0; 3], &delays, &[1, 2, 0, 3], [5; 3]);
+        assert_eq!(outcome.answer, Ok(44));
+        assert_eq!(outcome.u, [0, 0, 8, 4, 0]);
+        assert_eq!(outcome.v, [0, 0, 8, 4, 0]);
+        assert_eq!(outcome.wires, [0, 4, 4, 36, 0]);
+    }
+
+    #[test]
+    fn equal_delays_change_no_tree() {
+        let mut random = Random::new(42);
+        for round in 0..60 {
+            let n = 1 + round % 20;
+            for kind in SinkKind::GOOD {
+                let (x, y) = sinks(&mut random, kind, n);
+                let joins = good_joins(&mut random, n);
+                let equal = delays(&mut random, DelayKind::Equal, &x, &y);
+                let plain = work_out(&x, &y, &no_delays(n), &joins);
+                let delayed = work_out(&x, &y, &equal, &joins);
+                assert_eq!(delayed.places, plain.places);
+                assert_eq!(delayed.wires, plain.wires);
+                assert_eq!(delayed.total, plain.total);
+            }
+        }
     }
 }

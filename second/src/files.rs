@@ -1,4 +1,7 @@
 //! Writers and readers of the three house files.
+//!
+//! Files of version 1, the only one, hold no delays: every sink of theirs has
+//! the delay 0.
 
 use crate::embed::{self, Embedding};
 pub use crate::form::Kind;
@@ -10,14 +13,14 @@ use crate::refusal::Refusal;
 /// Writes a sink file into the lent bytes and gives its length.
 /// Refusals 1 to 4, then 7.
 pub fn write_sinks(x: &[i32], y: &[i32], out: &mut [u8]) -> Result<usize, Refusal> {
-    plane::check_sinks(x, y, MOST_SINKS)?;
+    plane::check_places(x, y, MOST_SINKS)?;
     lend(Kind::Sinks, x.len(), out, || sink_bytes(x, y))
 }
 
 /// Writes a joined file into the lent bytes and gives its length.
 /// Refusals 1 to 4, 6, then 7.
 pub fn write_joined(x: &[i32], y: &[i32], joins: &[u16], out: &mut [u8]) -> Result<usize, Refusal> {
-    plane::check_sinks(x, y, MOST_SINKS)?;
+    plane::check_places(x, y, MOST_SINKS)?;
     joins::check(x.len(), joins)?;
     lend(Kind::Joined, x.len(), out, || joined_bytes(x, y, joins))
 }
@@ -25,7 +28,7 @@ pub fn write_joined(x: &[i32], y: &[i32], joins: &[u16], out: &mut [u8]) -> Resu
 /// Writes a tree file into the lent bytes and gives its length; places and
 /// wires are worked out here. Refusals 1 to 4, 6, then 7.
 pub fn write_tree(x: &[i32], y: &[i32], joins: &[u16], out: &mut [u8]) -> Result<usize, Refusal> {
-    plane::check_sinks(x, y, MOST_SINKS)?;
+    plane::check_places(x, y, MOST_SINKS)?;
     joins::check(x.len(), joins)?;
     lend(Kind::Tree, x.len(), out, || tree_bytes(x, y, joins))
 }
@@ -61,7 +64,7 @@ fn joined_bytes(x: &[i32], y: &[i32], joins: &[u16]) -> Vec<u8> {
 
 fn tree_bytes(x: &[i32], y: &[i32], joins: &[u16]) -> Vec<u8> {
     let mut file = joined_bytes(x, y, joins);
-    let tree = embed::work_out(x, y, joins);
+    let tree = embed::work_out(x, y, &plane::no_delays(x.len()), joins);
     let places = tree.places.iter().map(|place| (place.u.0, place.v.0));
     put_field(&mut file, 4, &place_bytes(places));
     let wires: Vec<u8> = tree.wires.iter().flat_map(|w| w.to_be_bytes()).collect();
@@ -134,7 +137,7 @@ pub(crate) fn contents(kind: Kind, file: &[u8]) -> Result<Contents, Refusal> {
     let sinks = numbers(values[1]);
     let x: Vec<i32> = sinks.iter().copied().step_by(2).collect();
     let y: Vec<i32> = sinks.iter().copied().skip(1).step_by(2).collect();
-    plane::check_sinks(&x, &y, MOST_SINKS)?;
+    plane::check_places(&x, &y, MOST_SINKS)?;
     let mut joins = Vec::new();
     if kind != Kind::Sinks {
         let names = values[2].chunks_exact(2);
@@ -142,7 +145,7 @@ pub(crate) fn contents(kind: Kind, file: &[u8]) -> Result<Contents, Refusal> {
         joins::check(x.len(), &joins)?;
     }
     if kind == Kind::Tree {
-        let tree = embed::work_out(&x, &y, &joins);
+        let tree = embed::work_out(&x, &y, &plane::no_delays(x.len()), &joins);
         check_tree(&tree, &numbers(values[3]), &numbers(values[4]))?;
     }
     Ok(Contents { x, y, joins })

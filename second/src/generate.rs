@@ -1,7 +1,7 @@
-//! Inputs for comparisons: sinks, joining orders, budgets and file damage,
-//! all drawn from one seed so that any finding can be run again.
+//! Inputs for comparisons: sinks, their delays, joining orders, budgets and
+//! file damage, all drawn from one seed so that any finding can be run again.
 
-use crate::plane::REACH;
+use crate::plane::{MOST_DELAY, REACH};
 use crate::search::full_steps;
 use std::collections::HashSet;
 
@@ -351,6 +351,146 @@ fn out_of_range(random: &mut Random, n: usize) -> (Vec<i32>, Vec<i32>) {
     (x, y)
 }
 
+/// How delays are spread over sinks.
+#[derive(Clone, Copy, Debug, PartialEq, Eq)]
+pub enum DelayKind {
+    /// All 0.
+    Zero,
+    /// Each 0 or 1.
+    ZeroOrOne,
+    /// All 1,000,000.
+    Greatest,
+    /// The same for all, any at all.
+    Equal,
+    /// Over the whole range.
+    Uniform,
+    /// One of 900,000 or more, the others of 3 or less.
+    OneLarge,
+    /// About half of them at 1,000,000 or one below it, the others at 0 or 1.
+    Ends,
+    /// As long as some distance between two sinks, or one off it, so that
+    /// delays and distances make the same diameters.
+    LikeDistances,
+    /// One to three sinks whose own boxes hold those of their nearest, just
+    /// so or with one to spare; some are one short of it.
+    Swallowing,
+    /// With at least one delay above 1,000,000, so that refusal 15 occurs.
+    OutOfRange,
+}
+
+impl DelayKind {
+    /// The kinds that are accepted.
+    pub const GOOD: [DelayKind; 9] = [
+        DelayKind::Zero,
+        DelayKind::ZeroOrOne,
+        DelayKind::Greatest,
+        DelayKind::Equal,
+        DelayKind::Uniform,
+        DelayKind::OneLarge,
+        DelayKind::Ends,
+        DelayKind::LikeDistances,
+        DelayKind::Swallowing,
+    ];
+}
+
+/// Delays that are refused with 15: the lowest ones, one that 31 bits do not
+/// hold, and the greatest there is.
+pub const LONG_DELAYS: [u32; 4] = [MOST_DELAY + 1, MOST_DELAY + 2, 1 << 31, u32::MAX];
+
+/// The delays of the sinks at these places. The places may be outside their
+/// range, and the lists of unlike length: that of x says how many sinks there
+/// are.
+pub fn delays(random: &mut Random, kind: DelayKind, x: &[i32], y: &[i32]) -> Vec<u32> {
+    let n = x.len();
+    match kind {
+        DelayKind::Zero => vec![0; n],
+        DelayKind::ZeroOrOne => each(random, n, |random| random.below(2) as u32),
+        DelayKind::Greatest => vec![MOST_DELAY; n],
+        DelayKind::Equal => vec![any_delay(random); n],
+        DelayKind::Uniform => each(random, n, any_delay),
+        DelayKind::OneLarge => {
+            let mut delays = each(random, n, |random| random.below(4) as u32);
+            if n >= 1 {
+                delays[random.below(n)] = MOST_DELAY - random.below(100_001) as u32;
+            }
+            delays
+        }
+        DelayKind::Ends => each(random, n, |random| {
+            random.pick(&[0, 1, MOST_DELAY - 1, MOST_DELAY])
+        }),
+        DelayKind::LikeDistances => each(random, n, |random| some_distance(random, x, y)),
+        DelayKind::Swallowing => swallowing(random, x, y),
+        DelayKind::OutOfRange => {
+            let mut delays = each(random, n, any_delay);
+            put_long_delays(random, &mut delays);
+            delays
+        }
+    }
+}
+
+fn each(random: &mut Random, n: usize, mut draw: impl FnMut(&mut Random) -> u32) -> Vec<u32> {
+    (0..n).map(|_| draw(random)).collect()
+}
+
+/// Any delay within its range.
+fn any_delay(random: &mut Random) -> u32 {
+    random.below(MOST_DELAY as usize + 1) as u32
+}
+
+/// The Manhattan distance of two places, which need not be in their range;
+/// a place without its y has 0 for it.
+fn apart(x: &[i32], y: &[i32], i: usize, j: usize) -> u64 {
+    let height = |at: usize| y.get(at).copied().unwrap_or(0);
+    u64::from(x[i].abs_diff(x[j])) + u64::from(height(i).abs_diff(height(j)))
+}
+
+/// The greatest delay, or the given length where that is less.
+fn at_most_the_greatest(length: u64) -> u32 {
+    length.min(u64::from(MOST_DELAY)) as u32
+}
+
+fn some_distance(random: &mut Random, x: &[i32], y: &[i32]) -> u32 {
+    let (i, j) = (random.below(x.len()), random.below(x.len()));
+    let near = apart(x, y, i, j) + random.below(3) as u64;
+    at_most_the_greatest(near.saturating_sub(1))
+}
+
+/// A box holds another where its delay is at least the other's plus their
+/// distance. Each swallower takes in a number of its nearest; a later one may
+/// take in an earlier one with all that is in it. Sinks too far apart for the
+/// greatest delay stay outside.
+fn swallowing(random: &mut Random, x: &[i32], y: &[i32]) -> Vec<u32> {
+    let n = x.len();
+    let mut delays = each(random, n, |random| random.below(3) as u32);
+    if n < 2 {
+        return delays;
+    }
+    for _ in 0..1 + random.below(3) {
+        let swallower = random.below(n);
+        let others = (0..n).filter(|&other| other != swallower);
+        let mut needed: Vec<u64> = others
+            .map(|other| apart(x, y, swallower, other) + u64::from(delays[other]))
+            .collect();
+        needed.sort_unstable();
+        let farthest = needed[random.below(needed.len())];
+        delays[swallower] = at_most_the_greatest(match random.below(4) {
+            0 => farthest.saturating_sub(1),
+            1 => farthest + 1,
+            _ => farthest,
+        });
+    }
+    delays
+}
+
+/// Puts one to three delays outside their range, where there is a sink.
+pub fn put_long_delays(random: &mut Random, delays: &mut [u32]) {
+    if !delays.is_empty() {
+        for _ in 0..1 + random.below(3) {
+            delays[random.below(delays.len())] = random.pick(&LONG_DELAYS);
+        }
+    }
+}
+
 /// A random good joining order of `n` sinks, empty for none; its pairs are not
 /// always rising.
 pub fn good_joins(random: &mut Random, n: usize) -> Vec<u16> {
@@ -507,7 +647,7 @@ pub fn every_damage(random: &mut Random, file: &[u8]) -> Vec<FileDamage> {
 #[cfg(test)]
 mod tests {
     use super::*;
-    use crate::plane::{check_sinks, MOST_SINKS};
+    use crate::plane::{check_places, check_sinks, MOST_SINKS};
 
     #[test]
     fn the_first_numbers_are_those_of_splitmix64() {
@@ -522,13 +662,75 @@ mod tests {
         for n in (2..40).chain([512]) {
             for kind in SinkKind::GOOD {
                 let (x, y) = sinks(&mut random, kind, n);
-                assert_eq!(check_sinks(&x, &y, MOST_SINKS), Ok(()), "{kind:?} {n}");
+                assert_eq!(check_places(&x, &y, MOST_SINKS), Ok(()), "{kind:?} {n}");
                 assert_eq!(x.len(), n);
             }
             let (x, y) = sinks(&mut random, SinkKind::OutOfRange, n);
-            let refusal = check_sinks(&x, &y, MOST_SINKS).unwrap_err();
+            let refusal = check_places(&x, &y, MOST_SINKS).unwrap_err();
             assert_eq!(refusal.number(), 4);
         }
+    }
+
+    #[test]
+    fn delays_are_accepted_or_refused_as_their_kind_says() {
+        let mut random = Random::new(78);
+        for n in (1..40).chain([512]) {
+            for spread in SinkKind::GOOD {
+                let (x, y) = sinks(&mut random, spread, n);
+                for kind in DelayKind::GOOD {
+                    let waits = delays(&mut random, kind, &x, &y);
+                    assert_eq!(waits.len(), n);
+                    assert_eq!(check_sinks(&x, &y, &waits, MOST_SINKS), Ok(()), "{kind:?}");
+                }
+                let waits = delays(&mut random, DelayKind::OutOfRange, &x, &y);
+                let refusal = check_sinks(&x, &y, &waits, MOST_SINKS).unwrap_err();
+                assert_eq!(refusal.number(), 15);
+            }
+        }
+        for kind in DelayKind::GOOD.into_iter().chain([DelayKind::OutOfRange]) {
+            assert!(delays(&mut random, kind, &[], &[1]).is_empty());
+            let far = delays(&mut random, kind, &[i32::MIN, i32::MAX], &[7]);
+            assert_eq!(far.len(), 2);
+        }
+    }
+
+    #[test]
+    fn delays_are_spread_as_the_kind_says() {
+        let mut random = Random::new(79);
+        for n in 2..60 {
+            let (x, y) = sinks(&mut random, SinkKind::Clustered, n);
+            let mut of = |kind| delays(&mut random, kind, &x, &y);
+            assert!(of(DelayKind::Zero).iter().all(|&w| w == 0));
+            assert!(of(DelayKind::ZeroOrOne).iter().all(|&w| w <= 1));
+            assert!(of(DelayKind::Greatest).iter().all(|&w| w == 1_000_000));
+            let equal = of(DelayKind::Equal);
+            assert!(equal.iter().all(|&w| w == equal[0]));
+            let large = of(DelayKind::OneLarge);
+            assert_eq!(large.iter().filter(|&&w| w >= 900_000).count(), 1);
+            assert_eq!(large.iter().filter(|&&w| w <= 3).count(), n - 1);
+        }
+    }
+
+    #[test]
+    fn swallowers_hold_others_in_their_boxes() {
+        let mut random = Random::new(80);
+        let (mut just, mut beyond) = (0, 0);
+        for round in 0..200 {
+            let n = 2 + round % 9;
+            let (x, y) = sinks(&mut random, SinkKind::Clustered, n);
+            let waits = delays(&mut random, DelayKind::Swallowing, &x, &y);
+            let spare = |i: usize, j: usize| {
+                u64::from(waits[i]).checked_sub(apart(&x, &y, i, j) + u64::from(waits[j]))
+            };
+            let pairs = (0..n).flat_map(|i| (0..n).map(move |j| (i, j)));
+            let held: Vec<u64> = pairs
+                .filter(|(i, j)| i != j)
+                .filter_map(|(i, j)| spare(i, j))
+                .collect();
+            just += usize::from(held.contains(&0));
+            beyond += usize::from(held.iter().any(|&spare| spare > 0));
+        }
+        assert!(just > 100 && beyond > 100, "{just} {beyond}");
     }
 
     #[test]

@@ -4,7 +4,7 @@ use crate::embed::Lent;
 use crate::files::{self, Kind};
 use crate::joins;
 use crate::least;
-use crate::plane::MOST_SEARCHED;
+use crate::plane::{self, MOST_SEARCHED};
 use crate::refusal::Refusal;
 use crate::search;
 use std::fmt::Write;
@@ -34,11 +34,12 @@ struct Tree {
     wires: Vec<u32>,
 }
 
-/// Reads the sink file and builds its tree.
+/// Reads the sink file, which holds no delays, and builds its tree.
 fn build(input: &[u8]) -> Result<Tree, Refusal> {
     let sinks = files::contents(Kind::Sinks, input)?;
     let (x, y) = (&sinks.x, &sinks.y);
     let n = x.len();
+    let delays = &plane::no_delays(n);
     let mut tree = Tree {
         sinks: n,
         total: 0,
@@ -56,11 +57,11 @@ fn build(input: &[u8]) -> Result<Tree, Refusal> {
     if n <= MOST_SEARCHED {
         let budget = search::full_steps(n);
         let mut table = vec![0; 1 << n];
-        let found = search::search(x, y, budget, &mut table, &mut tree.pairs, lent)?;
+        let found = search::search(x, y, delays, budget, &mut table, &mut tree.pairs, lent)?;
         tree.total = found.total;
         tree.mark = "proven";
     } else {
-        tree.total = least::build_least(x, y, &mut tree.pairs, lent)?;
+        tree.total = least::build_least(x, y, delays, &mut tree.pairs, lent)?;
     }
     Ok(tree)
 }

@@ -16,10 +16,12 @@ mod c {
             nx: usize,
             y: *const i32,
             ny: usize,
+            delays: *const u32,
+            nd: usize,
             held: *mut u32,
             said: *mut u64,
         );
-        pub fn skeprafter_widen(held: *mut u32, x: i32, y: i32, said: *mut u64);
+        pub fn skeprafter_widen(held: *mut u32, x: i32, y: i32, delay: u32, said: *mut u64);
         pub fn skeprafter_ends(held: *const u32, ends: *mut i64);
         pub fn skeprafter_diameter(held: *const u32) -> u32;
         pub fn skeprafter_embed(
@@ -27,6 +29,8 @@ mod c {
             nx: usize,
             y: *const i32,
             ny: usize,
+            delays: *const u32,
+            nd: usize,
             joins: *const u16,
             nj: usize,
             u: *mut i32,
@@ -42,6 +46,8 @@ mod c {
             nx: usize,
             y: *const i32,
             ny: usize,
+            delays: *const u32,
+            nd: usize,
             joins: *mut u16,
             nj: usize,
             said: *mut u64,
@@ -51,6 +57,8 @@ mod c {
             nx: usize,
             y: *const i32,
             ny: usize,
+            delays: *const u32,
+            nd: usize,
             joins: *mut u16,
             nj: usize,
             u: *mut i32,
@@ -66,6 +74,8 @@ mod c {
             nx: usize,
             y: *const i32,
             ny: usize,
+            delays: *const u32,
+            nd: usize,
             budget: u64,
             table: *mut u32,
             nt: usize,
@@ -166,8 +176,9 @@ pub type Answer = Result<Said, Refused>;
 /// not of the form; the place is then the lowest of the six that breaks it.
 pub const MALFORMED: u64 = u64::MAX;
 
-/// The refusal that was withdrawn; a call that says it breaks the form.
-const WITHDRAWN: u64 = 5;
+/// The numbers of an acceptance and of all refusals; a call that says another
+/// one breaks the form. 5 was withdrawn.
+const NUMBERS: [u64; 10] = [0, 1, 2, 3, 4, 6, 7, 8, 9, 15];
 
 /// The raw numbers of a held box, which only the library can read.
 pub type RawBox = [u32; 4];
@@ -181,10 +192,10 @@ fn heard(said: [u64; 6]) -> Answer {
     let [number, placed, place, value, steps, proven] = said;
     let greatest = match (number, placed) {
         (0, _) => [0, 0, 0, ANY, ANY, 1],
-        (_, 0) => [9, 0, 0, 0, 0, 0],
-        (_, _) => [9, 1, ANY, 0, 0, 0],
+        (_, 0) => [ANY, 0, 0, 0, 0, 0],
+        (_, _) => [ANY, 1, ANY, 0, 0, 0],
     };
-    if number == WITHDRAWN {
+    if !NUMBERS.contains(&number) {
         return Err((MALFORMED, Some(0)));
     }
     if let Some(at) = (0..6).find(|&at| said[at] > greatest[at]) {
@@ -201,7 +212,7 @@ fn heard(said: [u64; 6]) -> Answer {
 }
 
 /// The box of all sinks, put into `held`.
-pub fn box_of(x: &[i32], y: &[i32], held: &mut RawBox) -> Answer {
+pub fn box_of(x: &[i32], y: &[i32], delays: &[u32], held: &mut RawBox) -> Answer {
     let mut said = UNSAID;
     // SAFETY: pointers and lengths are those of live slices and arrays.
     unsafe {
@@ -210,6 +221,8 @@ pub fn box_of(x: &[i32], y: &[i32], held: &mut RawBox) -> Answer {
             x.len(),
             y.as_ptr(),
             y.len(),
+            delays.as_ptr(),
+            delays.len(),
             held.as_mut_ptr(),
             said.as_mut_ptr(),
         );
@@ -218,10 +231,10 @@ pub fn box_of(x: &[i32], y: &[i32], held: &mut RawBox) -> Answer {
 }
 
 /// Widens a held box by one more sink.
-pub fn widen(held: &mut RawBox, x: i32, y: i32) -> Answer {
+pub fn widen(held: &mut RawBox, x: i32, y: i32, delay: u32) -> Answer {
     let mut said = UNSAID;
     // SAFETY: both arrays are live and of the length the header asks for.
-    unsafe { c::skeprafter_widen(held.as_mut_ptr(), x, y, said.as_mut_ptr()) };
+    unsafe { c::skeprafter_widen(held.as_mut_ptr(), x, y, delay, said.as_mut_ptr()) };
     heard(said)
 }
 
@@ -240,7 +253,7 @@ pub fn diameter(held: &RawBox) -> u32 {
 }
 
 /// Embeds a joining order.
-pub fn embed(x: &[i32], y: &[i32], joins: &[u16], lent: Lent<'_>) -> Answer {
+pub fn embed(x: &[i32], y: &[i32], delays: &[u32], joins: &[u16], lent: Lent<'_>) -> Answer {
     let mut said = UNSAID;
     // SAFETY: pointers and lengths are those of live slices.
     unsafe {
@@ -249,6 +262,8 @@ pub fn embed(x: &[i32], y: &[i32], joins: &[u16], lent: Lent<'_>) -> Answer {
             x.len(),
             y.as_ptr(),
             y.len(),
+            delays.as_ptr(),
+            delays.len(),
             joins.as_ptr(),
             joins.len(),
             lent.u.as_mut_ptr(),
@@ -264,7 +279,7 @@ pub fn embed(x: &[i32], y: &[i32], joins: &[u16], lent: Lent<'_>) -> Answer {
 }
 
 /// Joins by least diameter.
-pub fn join_nearest(x: &[i32], y: &[i32], joins: &mut [u16]) -> Answer {
+pub fn join_nearest(x: &[i32], y: &[i32], delays: &[u32], joins: &mut [u16]) -> Answer {
     let mut said = UNSAID;
     // SAFETY: pointers and lengths are those of live slices.
     unsafe {
@@ -273,6 +288,8 @@ pub fn join_nearest(x: &[i32], y: &[i32], joins: &mut [u16]) -> Answer {
             x.len(),
             y.as_ptr(),
             y.len(),
+            delays.as_ptr(),
+            delays.len(),
             joins.as_mut_ptr(),
             joins.len(),
             said.as_mut_ptr(),
@@ -282,7 +299,13 @@ pub fn join_nearest(x: &[i32], y: &[i32], joins: &mut [u16]) -> Answer {
 }
 
 /// Joins by least diameter and embeds the result.
-pub fn embed_nearest(x: &[i32], y: &[i32], joins: &mut [u16], lent: Lent<'_>) -> Answer {
+pub fn embed_nearest(
+    x: &[i32],
+    y: &[i32],
+    delays: &[u32],
+    joins: &mut [u16],
+    lent: Lent<'_>,
+) -> Answer {
     let mut said = UNSAID;
     // SAFETY: pointers and lengths are those of live slices.
     unsafe {
@@ -291,6 +314,8 @@ pub fn embed_nearest(x: &[i32], y: &[i32], joins: &mut [u16], lent: Lent<'_>) ->
             x.len(),
             y.as_ptr(),
             y.len(),
+            delays.as_ptr(),
+            delays.len(),
             joins.as_mut_ptr(),
             joins.len(),
             lent.u.as_mut_ptr(),
@@ -309,6 +334,7 @@ pub fn embed_nearest(x: &[i32], y: &[i32], joins: &mut [u16], lent: Lent<'_>) ->
 pub fn search(
     x: &[i32],
     y: &[i32],
+    delays: &[u32],
     budget: u64,
     table: &mut [u32],
     joins: &mut [u16],
@@ -322,6 +348,8 @@ pub fn search(
             x.len(),
             y.as_ptr(),
             y.len(),
+            delays.as_ptr(),
+            delays.len(),
             budget,
             table.as_mut_ptr(),
             table.len(),
@@ -399,6 +427,8 @@ mod tests {
         assert_eq!(heard([0, 0, 0, 30, 25, 1]), Ok(search));
         assert_eq!(heard([8, 1, 0, 0, 0, 0]), Err((8, Some(0))));
         assert_eq!(heard([2, 0, 0, 0, 0, 0]), Err((2, None)));
+        assert_eq!(heard([15, 1, 0, 0, 0, 0]), Err((15, Some(0))));
+        assert_eq!(heard([15, 1, 511, 0, 0, 0]), Err((15, Some(511))));
     }
 
     #[test]
@@ -408,7 +438,10 @@ mod tests {
             other => panic!("{other:?}"),
         };
         assert_eq!(at(UNSAID), 0);
-        assert_eq!(at([10, 0, 0, 0, 0, 0]), 0);
+        for number in [10, 11, 12, 13, 14, 16, 17, 1 << 32, u64::MAX] {
+            assert_eq!(at([number, 0, 0, 0, 0, 0]), 0);
+            assert_eq!(at([number, 1, 3, 0, 0, 0]), 0);
+        }
         assert_eq!(at([0, 1, 0, 0, 0, 0]), 1);
         assert_eq!(at([4, 2, 0, 0, 0, 0]), 1);
         assert_eq!(at([4, 0, 1, 0, 0, 0]), 2);

@@ -1,7 +1,8 @@
 //! The refusals, each with its number and its place.
 //!
-//! The numbers are 1 to 4 and 6 to 9. Number 5 is withdrawn, since a place
-//! may hold several pins; no other refusal takes it.
+//! The numbers are 1 to 4, 6 to 9 and 15. Number 5 is withdrawn, since a
+//! place may hold several pins; no other refusal takes it. Number 15 is
+//! checked right after 4, wherever delays are taken.
 
 use std::fmt;
 
@@ -9,7 +10,8 @@ use std::fmt;
 /// never stands for place 0.
 #[derive(Clone, Copy, Debug, PartialEq, Eq)]
 pub enum Refusal {
-    /// 1: the lists of x and y differ in length.
+    /// 1: the lists of x, y and delays differ in length; where no delays are
+    /// taken, those of x and y.
     ListsDiffer,
     /// 2: there is no sink.
     NoSink,
@@ -26,6 +28,8 @@ pub enum Refusal {
     /// 9: the lowest node whose stored place or wire is wrong; none where a
     /// count is wrong.
     NotTheEmbedding(Option<usize>),
+    /// 15: the lowest sink with a delay outside its range.
+    DelayOutOfRange(usize),
 }
 
 impl Refusal {
@@ -40,6 +44,7 @@ impl Refusal {
             Refusal::ShortBuffer => 7,
             Refusal::NotOfTheForm(_) => 8,
             Refusal::NotTheEmbedding(_) => 9,
+            Refusal::DelayOutOfRange(_) => 15,
         }
     }
 
@@ -52,7 +57,8 @@ impl Refusal {
             | Refusal::ShortBuffer => None,
             Refusal::OutOfRange(place)
             | Refusal::WrongJoins(place)
-            | Refusal::NotOfTheForm(place) => Some(place),
+            | Refusal::NotOfTheForm(place)
+            | Refusal::DelayOutOfRange(place) => Some(place),
             Refusal::NotTheEmbedding(place) => place,
         }
     }
@@ -78,10 +84,11 @@ mod tests {
         assert_eq!(Refusal::NoSink.to_string(), "refused 2");
         assert_eq!(Refusal::NotTheEmbedding(None).to_string(), "refused 9");
         assert_eq!(Refusal::NotTheEmbedding(Some(0)).to_string(), "refused 9 0");
+        assert_eq!(Refusal::DelayOutOfRange(0).to_string(), "refused 15 0");
     }
 
     #[test]
-    fn the_numbers_are_one_to_nine_without_five() {
+    fn the_numbers_are_one_to_nine_without_five_and_fifteen() {
         let one_of_each = [
             Refusal::ListsDiffer,
             Refusal::NoSink,
@@ -91,7 +98,9 @@ mod tests {
             Refusal::ShortBuffer,
             Refusal::NotOfTheForm(5),
             Refusal::NotTheEmbedding(Some(5)),
+            Refusal::DelayOutOfRange(5),
         ];
-        assert_eq!(one_of_each.map(Refusal::number), [1, 2, 3, 4, 6, 7, 8, 9]);
+        let numbers = [1, 2, 3, 4, 6, 7, 8, 9, 15];
+        assert_eq!(one_of_each.map(Refusal::number), numbers);
     }
 }

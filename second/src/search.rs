@@ -8,7 +8,8 @@ use crate::refusal::Refusal;
 /// What a subset of two or more sinks holds before any split is examined.
 pub const UNEXAMINED: u32 = u32::MAX;
 
-/// Distances between sinks in grid units; rows and columns from n on hold 0.
+/// Distances between sinks plus both delays, in grid units, so that twice its
+/// own delay stands for a sink with itself; rows and columns from n on hold 0.
 pub type Square = [[u32; MOST_SEARCHED]; MOST_SEARCHED];
 
 /// The numbers of an answered search.
@@ -29,17 +30,19 @@ pub fn full_steps(n: usize) -> u64 {
     (3u64.pow(n) + 1) / 2 - 2u64.pow(n)
 }
 
-/// The square of distances between sinks, with refusals 1 to 4 at 12 sinks.
-pub fn distance_square(x: &[i32], y: &[i32]) -> Result<Square, Refusal> {
-    plane::check_sinks(x, y, MOST_SEARCHED)?;
-    Ok(square(x, y))
+/// The square of distances plus delays, with refusals 1 to 4, then 15, at 12
+/// sinks.
+pub fn distance_square(x: &[i32], y: &[i32], delays: &[u32]) -> Result<Square, Refusal> {
+    plane::check_sinks(x, y, delays, MOST_SEARCHED)?;
+    Ok(square(x, y, delays))
 }
 
-fn square(x: &[i32], y: &[i32]) -> Square {
+fn square(x: &[i32], y: &[i32], delays: &[u32]) -> Square {
     let mut square = [[0; MOST_SEARCHED]; MOST_SEARCHED];
     for i in 0..x.len() {
         for j in 0..x.len() {
-            square[i][j] = x[i].abs_diff(x[j]) + y[i].abs_diff(y[j]);
+            let apart = x[i].abs_diff(x[j]) + y[i].abs_diff(y[j]);
+            square[i][j] = apart + delays[i] + delays[j];
         }
     }
     square
@@ -48,31 +51,32 @@ fn square(x: &[i32], y: &[i32]) -> Square {
 /// Searches with the budget, leaves the work table as the examined splits
 /// make it, and fills in the tree: the least one where the budget reaches
 /// F(n), else the one of joining by least diameter. Refusals 1 to 4 with at
-/// most 12 sinks, then 7.
+/// most 12 sinks, 15, then 7.
 pub fn search(
     x: &[i32],
     y: &[i32],
+    delays: &[u32],
     budget: u64,
     table: &mut [u32],
     pairs: &mut [u16],
     lent: Lent<'_>,
 ) -> Result<Found, Refusal> {
-    plane::check_sinks(x, y, MOST_SEARCHED)?;
+    plane::check_sinks(x, y, delays, MOST_SEARCHED)?;
     let n = x.len();
     if table.len() < 1 << n || pairs.len() < 2 * (n - 1) {
         return Err(Refusal::ShortBuffer);
     }
     lent.check(n)?;
-    let diameters = subset_diameters(&square(x, y), n);
+    let diameters = subset_diameters(&square(x, y, delays), n);
     let examined = fill_table(&diameters, budget, &mut table[..1 << n]);
     let proven = budget >= full_steps(n);
     let joins = if proven {
         kept_joins(n, &examined.kept)
     } else {
-        least::least_joins(x, y)
+        least::least_joins(x, y, delays)
     };
     pairs[..joins.len()].copy_from_slice(&joins);
-    let total = embed::work_out(x, y, &joins).hand_out(lent);
+    let total = embed::work_out(x, y, delays, &joins).hand_out(lent);
     Ok(Found {
         total,
         steps: examined.steps,
@@ -80,17 +84,16 @@ pub fn search(
     })
 }
 
-/// The diameter of every subset. The farthest two sinks of a subset either
-/// leave out its lowest, or leave out its highest, or are just those two.
+/// The diameter of every subset. The two sinks that set it, which may be one
+/// sink twice, either leave out its lowest, or leave out its highest, or are
+/// just those two.
 fn subset_diameters(square: &Square, n: usize) -> Vec<u32> {
     let mut diameters = vec![0; 1 << n];
-    for subset in 0usize..1 << n {
-        if subset.count_ones() >= 2 {
-            let low = subset.trailing_zeros() as usize;
-            let high = (usize::BITS - 1 - subset.leading_zeros()) as usize;
-            let without = |sink: usize| diameters[subset & !(1 << sink)];
-            diameters[subset] = square[low][high].max(without(low)).max(without(high));
-        }
+    for subset in 1usize..1 << n {
+        let low = subset.trailing_zeros() as usize;
+        let high = (usize::BITS - 1 - subset.leading_zeros()) as usize;
+        let without = |sink: usize| diameters[subset & !(1 << sink)];
+        diameters[subset] = square[low][high].max(without(low)).max(without(high));
     }
     diameters
 }
@@ -102,7 +105,8 @@ struct Examined {
     kept: Vec<usize>,
 }
 
-/// Examines splits in the document's order until the budget is spent.
+/// Examines splits in the document's order until the budget is spent. Single
+/// sinks hold 0 whatever their delays: those are in the diameters alone.
 fn fill_table(diameters: &[u32], budget: u64, table: &mut [u32]) -> Examined {
     let mut steps = 0;
     let mut kept = vec![0; table.len()];
@@ -137,7 +141,7 @@ struct Seen {
 fn examine(subset: usize, allowed: u64, table: &[u32]) -> Seen {
     let lowest = subset & subset.wrapping_neg();
     let others = subset ^ lowest;
-    // Sums of finished subsets stay below 48,000,000: any first one is less.
+    // Sums of finished subsets stay below 72,000,000: any first one is less.
     let mut least = u32::MAX;
     let mut kept = 0;
     let mut steps = 0;
@@ -182,7 +186,7 @@ fn number_subset(subset: usize, n: usize, kept: &[usize], joins: &mut Vec<u16>) 
 #[cfg(test)]
 mod tests {
     use super::*;
-    use crate::generate::{sinks, Random, SinkKind};
+    use crate::generate::{delays, sinks, DelayKind, Random, SinkKind};
     use crate::plane::diameter_of_sinks;
 
     #[test]
@@ -194,14 +198,29 @@ mod tests {
 
     #[test]
     fn the_square_is_zero_from_n_on() {
-        let square = distance_square(&[0, 3], &[0, -2]).unwrap();
+        let square = distance_square(&[0, 3], &[0, -2], &[0, 0]).unwrap();
         let mut expected = [[0; 12]; 12];
         expected[0][1] = 5;
         expected[1][0] = 5;
         assert_eq!(square, expected);
-        assert_eq!(distance_square(&[8; 12], &[3; 12]), Ok([[0; 12]; 12]));
+        let none = distance_square(&[8; 12], &[3; 12], &[0; 12]);
+        assert_eq!(none, Ok([[0; 12]; 12]));
         let many: Vec<i32> = (0..13).collect();
-        assert_eq!(distance_square(&many, &many), Err(Refusal::TooManySinks));
+        let refused = distance_square(&many, &many, &[0; 13]);
+        assert_eq!(refused, Err(Refusal::TooManySinks));
+    }
+
+    #[test]
+    fn the_square_counts_both_delays_and_twice_the_own() {
+        let square = distance_square(&[0, 3], &[0, -2], &[7, 4]).unwrap();
+        let mut expected = [[0; 12]; 12];
+        expected[0][..2].copy_from_slice(&[14, 16]);
+        expected[1][..2].copy_from_slice(&[16, 8]);
+        assert_eq!(square, expected);
+        let long = distance_square(&[0, 3], &[0, -2], &[7, 1_000_001]);
+        assert_eq!(long, Err(Refusal::DelayOutOfRange(1)));
+        let few = distance_square(&[0, 3], &[0, -2], &[7]);
+        assert_eq!(few, Err(Refusal::ListsDiffer));
     }
 
     #[test]
@@ -209,14 +228,30 @@ mod tests {
         let mut random = Random::new(61);
         for kind in SinkKind::GOOD {
             let (x, y) = sinks(&mut random, kind, 7);
-            let diameters = subset_diameters(&square(&x, &y), 7);
-            for (subset, &d) in diameters.iter().enumerate().skip(1) {
-                let of = |list: &[i32]| -> Vec<i32> {
-                    let inside = (0..7).filter(|i| subset >> i & 1 == 1);
-                    inside.map(|i| list[i]).collect()
-                };
-                assert_eq!(diameter_of_sinks(&of(&x), &of(&y)), Ok(d));
+            for kind in DelayKind::GOOD {
+                let waits = delays(&mut random, kind, &x, &y);
+                let diameters = subset_diameters(&square(&x, &y, &waits), 7);
+                assert_eq!(diameters[0], 0);
+                for (subset, &d) in diameters.iter().enumerate().skip(1) {
+                    let (x, y) = (members(subset, &x), members(subset, &y));
+                    let waits = members(subset, &waits);
+                    assert_eq!(diameter_of_sinks(&x, &y, &waits), Ok(d));
+                }
             }
         }
+    }
+
+    /// The entries of a list that belong to the sinks of a subset.
+    fn members<T: Copy>(subset: usize, list: &[T]) -> Vec<T> {
+        let inside = (0..list.len()).filter(|i| subset >> i & 1 == 1);
+        inside.map(|i| list[i]).collect()
+    }
+
+    #[test]
+    fn one_sink_may_set_the_diameter_of_a_subset() {
+        // Sink 1 reaches from -7 to 13 and holds sinks 0 and 2, which are at 0
+        // and 5 to 7: whatever has sink 1 in it has 20.
+        let square = square(&[0, 3, 6], &[0; 3], &[0, 10, 1]);
+        assert_eq!(subset_diameters(&square, 3), [0, 0, 20, 20, 2, 7, 20, 20]);
     }
 }

@@ -40,7 +40,7 @@ impl Range {
     /// no half is lost.
     fn of_axis(least: Tilted, greatest: Tilted, diameter: i64) -> Range {
         let doubled = |t: Tilted| 2 * i64::from(t.0);
-        // Boxes of checked sinks keep both values within ±8,000,000.
+        // Boxes of checked sinks keep both values within ±12,000,000.
         Range {
             least: Doubled((doubled(greatest) - diameter) as i32),
             greatest: Doubled((doubled(least) + diameter) as i32),
@@ -63,7 +63,8 @@ pub struct Segment {
 }
 
 impl Segment {
-    /// The segment of a node from the box of its sinks.
+    /// The segment of a node from the box of its sinks. A single sink's is
+    /// its own place, whatever its delay.
     pub fn of_box(sinks: TiltedBox) -> Segment {
         let d = sinks.diameter();
         Segment {
@@ -92,7 +93,7 @@ impl Segment {
 #[cfg(test)]
 mod tests {
     use super::*;
-    use crate::generate::{sinks, Random, SinkKind};
+    use crate::generate::{delays, sinks, DelayKind, Random, SinkKind};
     use crate::plane::box_of_sinks;
 
     #[test]
@@ -100,7 +101,9 @@ mod tests {
         let mut random = Random::new(21);
         for round in 0..200 {
             let (x, y) = sinks(&mut random, SinkKind::Uniform, 1 + round % 9);
-            let segment = Segment::of_box(box_of_sinks(&x, &y).unwrap());
+            let kind = random.pick(&DelayKind::GOOD);
+            let w = delays(&mut random, kind, &x, &y);
+            let segment = Segment::of_box(box_of_sinks(&x, &y, &w).unwrap());
             assert!(segment.u.least <= segment.u.greatest);
             assert!(segment.v.least <= segment.v.greatest);
             assert!(segment.u.least == segment.u.greatest || segment.v.least == segment.v.greatest);
@@ -114,5 +117,38 @@ mod tests {
             v: Doubled(-3),
         };
         assert_eq!(root.quarters(), (2, 8));
+    }
+
+    #[test]
+    fn a_single_sink_stands_on_its_own_place() {
+        // u = -2 and v = 8: the ends -6 and 2 give 2 * 2 - 8 and 2 * -6 + 8.
+        let segment = Segment::of_box(box_of_sinks(&[3], &[-5], &[4]).unwrap());
+        let point = |at| Range {
+            least: Doubled(at),
+            greatest: Doubled(at),
+        };
+        assert_eq!((segment.u, segment.v), (point(-4), point(16)));
+    }
+
+    #[test]
+    fn a_delay_moves_the_segment_away_from_its_sink() {
+        // The ends are -3 and 11 on both axes, and d = 14: 2 * 11 - 14 = 8 and
+        // 2 * -3 + 14 = 8. Without delays it would be 10.
+        let two = box_of_sinks(&[0, 10], &[0, 0], &[3, 1]).unwrap();
+        let place = Segment::of_box(two).root_place();
+        assert_eq!((place.u, place.v), (Doubled(8), Doubled(8)));
+        // (0, 0) reaches from -1 to 1, and (3, 2) with u = 5, v = 1 from 3 to
+        // 7 and from -1 to 3. So d = 8, U is 2 * 7 - 8 = 6 = 2 * -1 + 8, and V
+        // is anything from 2 * 3 - 8 = -2 to 2 * -1 + 8 = 6.
+        let slant = box_of_sinks(&[0, 3], &[0, 2], &[1, 2]).unwrap();
+        let segment = Segment::of_box(slant);
+        assert_eq!(
+            (segment.u.least, segment.u.greatest),
+            (Doubled(6), Doubled(6))
+        );
+        assert_eq!(
+            (segment.v.least, segment.v.greatest),
+            (Doubled(-2), Doubled(6))
+        );
     }
 }

@@ -1,19 +1,11 @@
-//! Embedding against a slow rendering of the document's sentences.
+//! Embedding without delays against a slow rendering of the document's
+//! sentences, which knows of none.
 
 mod common;
 
+use common::slow::{axis, sinks_under};
 use common::treed;
 use second::generate::{good_joins, Random};
-
-/// The sinks under every node, by the pairs.
-fn sinks_under(n: usize, joins: &[u16]) -> Vec<Vec<usize>> {
-    let mut sets: Vec<Vec<usize>> = (0..n).map(|sink| vec![sink]).collect();
-    for pair in joins.chunks_exact(2) {
-        let (a, b) = (pair[0] as usize, pair[1] as usize);
-        sets.push([sets[a].clone(), sets[b].clone()].concat());
-    }
-    sets
-}
 
 /// Greatest Manhattan distance of two sinks of the set.
 fn diameter(x: &[i32], y: &[i32], set: &[usize]) -> i32 {
@@ -29,35 +21,19 @@ fn range(tilted: &[i32], set: &[usize], d: i32) -> Vec<i32> {
     (2 * greatest - d..=2 * least + d).collect()
 }
 
-/// One axis of all places: the root's least value, then for each node below
-/// the value nearest to its parent's.
-fn axis(tilted: &[i32], sets: &[Vec<usize>], ds: &[i32], joins: &[u16]) -> Vec<i32> {
-    let n = tilted.len();
-    let mut values = vec![0; sets.len()];
-    for node in (0..sets.len()).rev() {
-        let choices = range(tilted, &sets[node], ds[node]);
-        let named = joins.iter().position(|&name| name as usize == node);
-        values[node] = match named {
-            None => choices[0],
-            Some(at) => {
-                let above = values[n + at / 2];
-                let near = |value: &i32| (value - above).abs();
-                choices.into_iter().min_by_key(near).unwrap()
-            }
-        };
-    }
-    values
-}
-
 fn check(x: &[i32], y: &[i32], joins: &[u16]) {
     let n = x.len();
     let sets = sinks_under(n, joins);
     let ds: Vec<i32> = sets.iter().map(|set| diameter(x, y, set)).collect();
     let us: Vec<i32> = (0..n).map(|i| x[i] + y[i]).collect();
     let vs: Vec<i32> = (0..n).map(|i| x[i] - y[i]).collect();
+    let ranges = |tilted: &[i32]| -> Vec<Vec<i32>> {
+        let nodes = sets.iter().zip(&ds);
+        nodes.map(|(set, &d)| range(tilted, set, d)).collect()
+    };
     let answer = treed(x, y, joins).unwrap();
-    assert_eq!(answer.u, axis(&us, &sets, &ds, joins));
-    assert_eq!(answer.v, axis(&vs, &sets, &ds, joins));
+    assert_eq!(answer.u, axis(n, joins, &ranges(&us)));
+    assert_eq!(answer.v, axis(n, joins, &ranges(&vs)));
     for (at, &node) in joins.iter().enumerate() {
         let wire = ds[n + at / 2] - ds[node as usize];
         assert_eq!(answer.wires[node as usize], wire as u32);

@@ -1,8 +1,8 @@
-//! The table P1 to P12 and case D, byte for byte.
+//! The table P1 to P12, case D and the example in C, byte for byte.
 
 mod common;
 
-use common::{searched, treed, Answer};
+use common::{delayed_searched, searched, treed, Answer};
 use second::files::write_sinks;
 use second::generate::{sinks, Random, SinkKind};
 use second::lines::tree_lines;
@@ -43,7 +43,7 @@ fn p3_two_sinks() {
 #[test]
 fn p4_the_half_is_kept() {
     let answer = treed(&[0, 3], &[0, 2], &[0, 1]).unwrap();
-    assert_eq!(diameter_of_sinks(&[0, 3], &[0, 2]), Ok(5));
+    assert_eq!(diameter_of_sinks(&[0, 3], &[0, 2], &[0, 0]), Ok(5));
     assert_eq!((answer.u[2], answer.v[2], answer.total), (5, -3, 10));
     assert_eq!(answer.place(2).quarters(), (2, 8));
 }
@@ -124,4 +124,39 @@ fn case_d_byte_for_byte() {
     assert_eq!(out[..39], file[..]);
     assert_eq!(out[39..], [0xEE; 2]);
     assert_eq!(tree_lines(&file), LINES_D);
+}
+
+/// What examples/embed.c prints, by the comment at its head.
+fn example_text() -> String {
+    let source = include_str!("../../examples/embed.c");
+    let comment = source.split("*/").next().unwrap();
+    let printed = comment.split(" * Prints").nth(1).unwrap();
+    let lines = printed
+        .lines()
+        .filter_map(|line| line.strip_prefix(" *   "));
+    lines.map(|line| format!("{line}\n")).collect()
+}
+
+#[test]
+fn the_example_in_c_prints_what_the_reference_finds() {
+    let (x, y, w) = ([0, 4, 7, 11], [0; 4], [0, 0, 0, 3]);
+    let found = delayed_searched(&x, &y, &w, u64::MAX).unwrap();
+    let mut reached = [0; 7];
+    for (at, &child) in found.pairs.iter().enumerate().rev() {
+        reached[child as usize] = reached[4 + at / 2] + found.wires[child as usize];
+    }
+    let (total, steps) = (found.total, found.steps);
+    let mut text = format!("total {total}, proven in {steps} steps\n");
+    for node in 0..7 {
+        let (u, v, wire) = (found.u[node], found.v[node], found.wires[node]);
+        text += &format!("node {node}: U {u}, V {v}, wire {wire}");
+        text += &if node < 4 {
+            format!(", path {} plus delay {}\n", reached[node], 2 * w[node])
+        } else {
+            let at = 2 * (node - 4);
+            let (a, b) = (found.pairs[at], found.pairs[at + 1]);
+            format!(", joins {a} and {b}\n")
+        };
+    }
+    assert_eq!(example_text(), text);
 }

@@ -1,18 +1,16 @@
-//! The exact search against slow renderings of the document's sentences.
+//! The exact search without delays against slow renderings of the document's
+//! sentences, which know of none.
 
 mod common;
 
-use common::{searched, treed, Answer};
+use common::slow::{self, all_steps, every_order};
+use common::{searched, treed, zeros, Answer};
 use second::generate::{budget, sinks, Random, SinkKind};
 use second::least::join_least;
 use second::refusal::Refusal;
 use second::search::full_steps;
 
 type Sinks<'a> = (&'a [i32], &'a [i32]);
-
-fn size(subset: u32) -> u32 {
-    (0..32).filter(|bit| subset >> bit & 1 == 1).count() as u32
-}
 
 /// Greatest Manhattan distance of two sinks of the subset.
 fn diameter(sinks: Sinks, subset: u32) -> u32 {
@@ -26,55 +24,15 @@ fn diameter(sinks: Sinks, subset: u32) -> u32 {
     greatest
 }
 
-/// The splits of a subset, each named by the part with the lowest sink.
-fn splits(subset: u32) -> Vec<u32> {
-    let lowest = (0..32).find(|bit| subset >> bit & 1 == 1).unwrap();
-    let is_part = |part: &u32| part & !subset == 0 && part >> lowest & 1 == 1;
-    (0..subset).filter(is_part).collect()
-}
-
-/// best by its definition, with nothing remembered.
-fn best(sinks: Sinks, subset: u32) -> u32 {
-    if size(subset) < 2 {
-        return 0;
-    }
-    let sum = |part: u32| best(sinks, part) + best(sinks, subset - part);
-    diameter(sinks, subset) + splits(subset).into_iter().map(sum).min().unwrap()
-}
-
-/// The steps of the whole search in order: subset and part.
-fn all_steps(n: usize) -> Vec<(u32, u32)> {
-    let subsets = (0..1 << n).filter(|&subset| size(subset) >= 2);
-    let steps = |subset| splits(subset).into_iter().map(move |part| (subset, part));
-    subsets.flat_map(steps).collect()
-}
-
-/// The work table after the first `budget` steps, by its sentences.
-fn slow_table(sinks: Sinks, budget: u64) -> Vec<u32> {
-    let n = sinks.0.len();
-    let steps = all_steps(n);
-    let examined = &steps[..steps.len().min(budget as usize)];
-    let entry = |subset: u32| {
-        if size(subset) < 2 {
-            return 0;
-        }
-        let own = examined.iter().filter(|step| step.0 == subset);
-        let sums = own.map(|&(_, part)| best(sinks, part) + best(sinks, subset - part));
-        match sums.min() {
-            Some(least) => diameter(sinks, subset) + least,
-            None => 4_294_967_295,
-        }
-    };
-    (0..1 << n).map(entry).collect()
-}
-
 /// Compares one call with the sentences: table, steps, mark, spare entries.
 fn check_at(sinks: Sinks, budget: u64) {
     let (n, full) = (sinks.0.len(), full_steps(sinks.0.len()));
     let mut answer = Answer::with_room(n, 3);
-    answer.search(sinks.0, sinks.1, budget).unwrap();
+    let delays = zeros(sinks.0);
+    answer.search(sinks.0, sinks.1, &delays, budget).unwrap();
     let (table, spare) = answer.table.split_at(1 << n);
-    assert_eq!(table, slow_table(sinks, budget), "budget {budget}");
+    let expected = slow::table(&|subset| diameter(sinks, subset), n, budget);
+    assert_eq!(table, expected, "budget {budget}");
     assert_eq!(spare, [77; 3]);
     assert_eq!(answer.steps, budget.min(full));
     assert_eq!(answer.proven, budget >= full);
@@ -83,7 +41,7 @@ fn check_at(sinks: Sinks, budget: u64) {
     assert_eq!(answer.v[2 * n - 1..], [77; 3]);
     assert_eq!(answer.wires[2 * n - 1..], [77; 3]);
     let mut least = vec![0; 2 * n - 2];
-    join_least(sinks.0, sinks.1, &mut least).unwrap();
+    join_least(sinks.0, sinks.1, &delays, &mut least).unwrap();
     if !answer.proven {
         assert_eq!(answer.pairs[..2 * n - 2], least);
     }
@@ -119,20 +77,6 @@ fn the_table_at_some_budgets_of_five_and_six_sinks() {
     }
 }
 
-/// The proven joining order by its sentences: the first least split, the
-/// part with the lowest sink numbered first.
-fn slow_joins(sinks: Sinks, subset: u32, joins: &mut Vec<u16>) -> u16 {
-    if size(subset) == 1 {
-        return subset.trailing_zeros() as u16;
-    }
-    let sum = |part: &u32| best(sinks, *part) + best(sinks, subset - *part);
-    let part = splits(subset).into_iter().min_by_key(sum).unwrap();
-    let first = slow_joins(sinks, part, joins);
-    let second = slow_joins(sinks, subset - part, joins);
-    joins.extend([first, second]);
-    (sinks.0.len() + joins.len() / 2 - 1) as u16
-}
-
 #[test]
 fn proven_trees_are_the_first_least_splits() {
     let mut random = Random::new(103);
@@ -140,28 +84,8 @@ fn proven_trees_are_the_first_least_splits() {
         for kind in SinkKind::GOOD {
             let (x, y) = sinks(&mut random, kind, n);
             let answer = searched(&x, &y, u64::MAX).unwrap();
-            let mut joins = Vec::new();
-            slow_joins((&x, &y), (1 << n) - 1, &mut joins);
+            let joins = slow::joins(&|subset| diameter((&x, &y), subset), n);
             assert_eq!(answer.pairs, joins);
-        }
-    }
-}
-
-/// Calls `visit` with every joining order that goes on from the given one.
-fn every_order(n: usize, live: &[u16], joins: &mut Vec<u16>, visit: &mut dyn FnMut(&[u16])) {
-    if live.len() == 1 {
-        visit(joins);
-        return;
-    }
-    let join = (n + joins.len() / 2) as u16;
-    for (at, &a) in live.iter().enumerate() {
-        for &b in &live[at + 1..] {
-            let mut left: Vec<u16> = live.to_vec();
-            left.retain(|&node| node != a && node != b);
-            left.push(join);
-            joins.extend([a, b]);
-            every_order(n, &left, joins, visit);
-            joins.truncate(joins.len() - 2);
         }
     }
 }
@@ -248,7 +172,7 @@ fn search_refusals_leave_every_buffer() {
     for (x, y, refusal) in cases {
         let mut answer = Answer::with_room(0, 0);
         let before = answer.clone();
-        assert_eq!(answer.search(x, y, 9), Err(refusal));
+        assert_eq!(answer.search(x, y, &zeros(x), 9), Err(refusal));
         assert_eq!(answer, before);
     }
 }
@@ -266,7 +190,8 @@ fn a_short_buffer_leaves_the_others() {
             _ => drop(answer.wires.pop()),
         }
         let before = answer.clone();
-        assert_eq!(answer.search(&x, &y, 9), Err(Refusal::ShortBuffer));
+        let refused = answer.search(&x, &y, &zeros(&x), 9);
+        assert_eq!(refused, Err(Refusal::ShortBuffer));
         assert_eq!(answer, before);
     }
 }

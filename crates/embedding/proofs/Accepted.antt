@@ -1,5 +1,5 @@
 -- The check of joins accepts the valid joining orders, and no other.
-use mathlib.Core.Path.{_≡_, refl, sym, ap, _∙_}
+use mathlib.Core.Path.{_≡_, sym, ap, _∙_}
 use mathlib.Core.Logic.{⊎-elim}
 use mathlib.Core.Bool.{false, not}
 use mathlib.Core.List.{List}
@@ -7,19 +7,14 @@ use Prim.Native.Nat.{ℕ, _+_, _-_, _*_, _/_, _≤_, _<_, min}
 use native.Mathlib.Omega.{arith}
 use borrow.Author.Tests.{lt-leb, leb-false, ltb-false, eq-eqb, ne-eqb, eqb-true, eqb-false, not-false}
 use lib.Dec.{eqb, leb, ltb}
-use lib.IntN.{ℤ}
 use lib.ListN.{length, getD}
 use Rattle.lists.proofs.Tests.{or-lt}
 use Rattle.lists.proofs.First.{any-no}
-use Rattle.plane.specs.Sinks.{checkSinks}
-use Rattle.plane.proofs.Checks.{passed, accepted}
+use Rattle.plane.proofs.Checks.{passed}
 use Rattle.plane.specs.declared.refusal.Refusal.the-variants.{Joins, Room}
-use Rattle.plane.specs.declared.refusal.Checked.{Checked}
-use Rattle.plane.specs.declared.refusal.Checked.the-variants.{Fine, Refused}
+use Rattle.plane.specs.declared.refusal.Checked.the-variants.{Fine}
 use Rattle.embedding.specs.Joins.{left, right, named, badPair, firstBad, checkJoins, Valid}
-use Rattle.embedding.specs.Embedding.{checkOrder, checkRoom}
-use Rattle.plane.specs.Refusals.{andThen}
-use Rattle.embedding.specs.Sound.{Sound}
+use Rattle.embedding.specs.Embedding.{checkRoom}
 use Rattle.lists.proofs.Any.{any-none}
 use Rattle.embedding.proofs.Flags.{or-no}
 
@@ -96,19 +91,7 @@ module _ (n : ℕ) (js : List ℕ) where
   unfolding checkJoins
   joins-accepted w = rw (eq-eqb (length js) (2 * (n - 1)) (w .count), any-none (badPair n js) (n - 1) (not-bad w))
 
--- ---- refusals 1 to 4 and 6
-pub both-pass : (a b : Checked) → andThen a b ≡ Fine → (a ≡ Fine) × (b ≡ Fine)
-both-pass Fine b e = (refl, e)
-both-pass (Refused r) b e = let z : _≡_ {A = ℕ} 0 1 = cc in let x : ⊥ = omega arith in absurd x
-
-pub order-sound : (xs ys : List ℤ) (js : List ℕ) → checkOrder xs ys js ≡ Fine → Sound xs ys js
-unfolding checkOrder
-order-sound xs ys js e =
-    let (p, q) = both-pass (checkSinks 512 xs ys) (checkJoins (length xs) js) e in
-    let m = accepted 512 xs ys p in
-    record { sinks = m .ranged; joins = record { some = m .some; few = m .few; valid = joins-valid (length xs) js q } }
-
--- ---- and 7
+-- ---- refusal 7
 pub has-room : (m ru rv rw : ℕ) → checkRoom m ru rv rw ≡ Fine → (m ≤ ru) × (m ≤ rv) × (m ≤ rw)
 has-room m ru rv rw e =
     let (a, p) = passed (ltb ru m) Room _ e in

@@ -1,63 +1,64 @@
--- Document 01, "Numbers of this trade": "A total never passes 2,048,000,000."
-use mathlib.Core.Logic.{⊎-elim}
-use mathlib.Core.List.{List, [], _∷_}
+-- Document 02, Q-7: "Totals .. stay below 3,072,000,000." Document 01, "Numbers of this trade", where no sink has a delay: "A total never passes 2,048,000,000."
+use mathlib.Core.Path.{_≡_}
+use mathlib.Core.List.{List, [], _∷_, List·Memᴰ}
 use Prim.Native.Nat.{ℕ, zero, suc, _+_, _-_, _*_, _≤_, _<_}
+use native.Mathlib.Nat.{mul-suc}
 use native.Mathlib.Omega.{arith}
-use lib.Dec.{T}
-use lib.IntN.{ℤ, pos, _-ℤ_, natAbs}
-use lib.ListN.{length, getD, List·getD-eq-default}
+use lib.IntN.{ℤ}
+use lib.ListN.{length}
 use Rattle.lists.specs.Grow.{sumTo}
-use Rattle.lists.proofs.Tests.{or-lt}
-use Rattle.zero_skew.specs.Box.{diameter, apart}
-use Rattle.zero_skew.proofs.Whole.{abs-minus}
+use Rattle.lists.proofs.Sums.{sum-over}
+use Rattle.lists.proofs.Zeros.{zeros}
+use Rattle.zero_skew.specs.Plane.{Sinks}
+use Rattle.zero_skew.specs.Box.{diameter}
 use Rattle.zero_skew.proofs.Lemma1.{diam-met, diam-none}
-use Rattle.plane.specs.Range.{inRange}
-use Rattle.plane.specs.Measures.{lift}
-use Rattle.plane.specs.Sinks.{sinksAt, Ranged}
-use Rattle.plane.proofs.Numbers.{lifted, lift-range}
-use Rattle.plane.proofs.Lifted.{lifts}
-use Rattle.plane.proofs.Checks.{in-both}
+use Rattle.plane.specs.Sinks.{sinksAt, prompt, checkSinks, Ranged}
+use Rattle.plane.specs.declared.refusal.Checked.the-variants.{Fine}
+use Rattle.plane.proofs.Checks.{both-pass, accepted, fitting}
+use Rattle.plane.proofs.Spread.{Spread, far, diameter-spread, ranged-spread}
 use Rattle.embedding.specs.Nodes.{below, d}
-use Rattle.embedding.specs.Embedding.{total}
-use Rattle.embedding.specs.Sound.{Sound}
+use Rattle.embedding.specs.Joins.{checkJoins}
+use Rattle.embedding.specs.Embedding.{total, checkOrder}
+use Rattle.embedding.specs.Sound.{Ordered, Sound}
+use Rattle.embedding.proofs.Accepted.{joins-valid}
+use Rattle.embedding.proofs.Joined.{is-sink}
 
--- two coordinates in range are no further apart than 2,000,000
-near : (a b : ℤ) → T (inRange a) → T (inRange b) → natAbs (a -ℤ b) ≤ 2000000
-near a b p q =
-    rw (abs-minus a b)
-    (omega (arith, lift-range a p, lift-range b q, lifts 32000000 a (lift a) (lifted a p), lifts 32000000 b (lift b) (lifted b q)))
+sum-up-to : (b : ℕ) (f : ℕ → ℕ) (m : ℕ) → ((i : ℕ) → i < m → f i ≤ b) → sumTo f m ≤ b * m
+sum-up-to b f zero h = omega arith
+sum-up-to b f (suc m) h = rw (mul-suc b m) (omega (arith, h m (omega arith), sum-up-to b f m (λ i l. h i (omega arith))))
 
-sum-up-to : (f : ℕ → ℕ) (m : ℕ) → ((i : ℕ) → i < m → f i ≤ 4000000) → sumTo f m ≤ 4000000 * m
-sum-up-to f zero h = omega arith
-sum-up-to f (suc m) h = omega (arith, h m (omega arith), sum-up-to f m (λ i l. h i (omega arith)))
+module _ (s : Sinks) (js : List ℕ) (o : Ordered (s .n) js) {m w : ℕ} (r : Spread s m w) where
+  -- the root's diameter, but for the delays
+  root-bounded : (l : List ℕ) → ((i : ℕ) → List·Memᴰ i l → i < s .n) → diameter s l ≤ 4 * m + 2 * sumTo (s .wait) (s .n)
+  root-bounded [] u = rw (diam-none s) (omega arith)
+  root-bounded (h ∷ l) u =
+      let (i, j, p, q, e) = diam-met s h l in
+      rw e (omega (arith, far r i j, sum-over (s .wait) (s .n) i (u i p), sum-over (s .wait) (s .n) j (u j q)))
 
-module _ (xs ys : List ℤ) (r : Ranged xs ys) where
-  -- a sink that is not there stands at 0, 0
-  pub x-in : (i : ℕ) → T (inRange (getD xs i (pos 0)))
-  x-in i = ⊎-elim (λ h. in-both xs ys r i h .0) (λ h. rw (List·getD-eq-default xs (pos 0) {n = i} h) tt) (or-lt i (length xs))
-
-  pub y-in : (i : ℕ) → T (inRange (getD ys i (pos 0)))
-  y-in i = ⊎-elim (λ h. in-both xs ys r i h .1) (λ h. rw (List·getD-eq-default ys (pos 0) {n = i} (omega (arith, r .alike))) tt) (or-lt i (length xs))
-
-  far : (i j : ℕ) → apart (sinksAt xs ys) i j ≤ 4000000
-  far i j =
+  -- which come off the total again
+  total-up-to : total s js ≤ (4 * m + 2 * w) * (s .n - 1) + 4 * m
+  total-up-to =
       omega (
         arith,
-        near (getD xs i (pos 0)) (getD xs j (pos 0)) (x-in i) (x-in j),
-        near (getD ys i (pos 0)) (getD ys j (pos 0)) (y-in i) (y-in j),
+        sum-up-to (4 * m + 2 * w) (λ i. d s js (s .n + i)) (s .n - 1) (λ i h. diameter-spread r (below (s .n) js (s .n + i))),
+        root-bounded (below (s .n) js (2 * s .n - 2)) (is-sink s js o (2 * s .n - 2) (omega (arith, o .some))),
       )
 
-  pub diameter-bounded : (l : List ℕ) → diameter (sinksAt xs ys) l ≤ 4000000
-  diameter-bounded [] = rw (diam-none (sinksAt xs ys)) (omega arith)
-  diameter-bounded (h ∷ l) = let (i, j, _, _, e) = diam-met (sinksAt xs ys) h l in rw e (far i j)
+pub total-bounded : {xs ys : List ℤ} {delays js : List ℕ} → Ranged xs ys delays → Ordered (length xs) js → total (sinksAt xs ys delays) js < 3072000000
+total-bounded {xs} {ys} {delays} {js} r o =
+    omega (arith, o .some, o .few, total-up-to (sinksAt xs ys delays) js o (ranged-spread 1000000 (r .early) r))
 
-pub total-bounded : (xs ys : List ℤ) (js : List ℕ) → Sound xs ys js → total (sinksAt xs ys) js ≤ 2048000000
-total-bounded xs ys js s =
-    let n = length xs in
-    let some = s .joins .some in
-    let few = s .joins .few in
-    omega (
-      arith,
-      sum-up-to (λ i. d (sinksAt xs ys) js (n + i)) (n - 1) (λ i h. diameter-bounded xs ys (s .sinks) (below n js (n + i))),
-      diameter-bounded xs ys (s .sinks) (below n js (2 * n - 2)),
-    )
+pub prompt-bounded : {xs ys : List ℤ} {js : List ℕ} → Ranged xs ys (prompt xs) → Ordered (length xs) js → total (sinksAt xs ys (prompt xs)) js ≤ 2048000000
+prompt-bounded {xs} {ys} {js} r o =
+    omega (arith, o .some, o .few, total-up-to (sinksAt xs ys (prompt xs)) js o (ranged-spread 0 (λ i. omega (arith, zeros (length xs) i)) r))
+
+-- so what a call's check accepts, the code can embed
+pub sound : {xs ys : List ℤ} {delays js : List ℕ} → Ranged xs ys delays → Ordered (length xs) js → Sound xs ys delays js
+sound r o = record { sinks = fitting r; joins = o; low = omega (arith, total-bounded r o) }
+
+pub order-sound : (xs ys : List ℤ) (delays js : List ℕ) → checkOrder xs ys delays js ≡ Fine → Sound xs ys delays js
+unfolding checkOrder
+order-sound xs ys delays js e =
+    let (p, q) = both-pass (checkSinks 512 xs ys delays) (checkJoins (length xs) js) e in
+    let m = accepted 512 xs ys delays p in
+    sound (m .ranged) (record { some = m .some; few = m .few; valid = joins-valid (length xs) js q })

@@ -1,16 +1,19 @@
 -- What a joining order adds up over its pairs, its root has: every sink once, and the sum of the diameters of all joins.
 use mathlib.Core.Path.{_≡_, refl, ap, _∙_}
-use mathlib.Core.List.{List}
+use mathlib.Core.Logic.{⊎-elim}
+use mathlib.Core.List.{List, List·Memᴰ}
 use Prim.Native.Nat.{ℕ, zero, suc, _+_, _-_, _*_, _≤_, _<_}
 use native.Mathlib.Omega.{arith}
+use borrow.Author.Tests.{ne-eqb}
 use lib.ListN.{getD}
 use Rattle.lists.specs.Grow.{sumTo}
 use Rattle.lists.proofs.Grow.{sum-same}
 use Rattle.lists.proofs.Sums.{sum-none}
+use Rattle.lists.proofs.Tests.{or-lt}
 use Rattle.zero_skew.specs.Plane.{Sinks}
 use Rattle.zero_skew.specs.Tree.{count}
 use Rattle.zero_skew.specs.Order.{sums, halves, Over}
-use Rattle.zero_skew.proofs.Count.{count-append}
+use Rattle.zero_skew.proofs.Count.{count-append, in-count}
 use Rattle.embedding.specs.Joins.{left, right}
 use Rattle.embedding.specs.Sound.{Ordered}
 use Rattle.embedding.specs.Nodes.{node, below, d}
@@ -68,6 +71,32 @@ module _ (s : Sinks) (js : List ℕ) (o : Ordered (s .n) js) where
   pub over : Over s (node (s .n) js (2 * s .n - 2))
   over = record { once = once (s .n) js o; no-other = no-other (s .n) js o }
 
+  -- and no node has any other below it: of the nodes that the first m joins make
+  no-others : (m : ℕ) → m ≤ s .n - 1 → (k i : ℕ) → k < s .n + m → s .n ≤ i → count i (below (s .n) js k) ≡ 0
+  unfolding count
+  no-others zero l k i h g = ap (count i) (below-sink (s .n) js o k (omega arith)) ∙ rw (ne-eqb i k (λ e. omega arith))
+  no-others (suc m) l k i h g =
+      ⊎-elim
+      (λ a. no-others m (omega arith) k i a g)
+      (λ a.
+      let e : k ≡ s .n + m = omega arith in
+      ap (λ (x : ℕ). count i (below (s .n) js x)) e
+      ∙ ap (count i) (below-join (s .n) js o m (omega arith))
+      ∙ count-append i (below (s .n) js (left js m)) (below (s .n) js (right js m))
+      ∙ omega (
+        arith,
+        no-others m (omega arith) (left js m) i (o .valid .low-left m (omega arith)) g,
+        no-others m (omega arith) (right js m) i (o .valid .low-right m (omega arith)) g,
+      ))
+      (or-lt k (s .n + m))
+
+  pub is-sink : (k : ℕ) → k < 2 * s .n - 1 → (i : ℕ) → List·Memᴰ i (below (s .n) js k) → i < s .n
+  is-sink k h i m =
+      ⊎-elim
+      (λ a. a)
+      (λ a. absurd (omega (arith, no-others (s .n - 1) (omega arith) k i (omega (arith, o .some)) a, in-count i (below (s .n) js k) m)))
+      (or-lt i (s .n))
+
   pub sums-sink : (k : ℕ) → k < s .n → sums s (node (s .n) js k) ≡ 0
   unfolding sums
   sums-sink k h = ap (sums s) (node-sink (s .n) js o k h)
@@ -77,16 +106,12 @@ module _ (s : Sinks) (js : List ℕ) (o : Ordered (s .n) js) where
   sums-join i h = ap (sums s) (node-join (s .n) js o i h) ∙ rw (below-join (s .n) js o i h)
 
   -- "the sum of d over all joins"
-  sums-are : sums s (node (s .n) js (2 * s .n - 2)) ≡ sumTo (λ i. d s js (s .n + i)) (s .n - 1)
+  pub sums-are : sums s (node (s .n) js (2 * s .n - 2)) ≡ sumTo (λ i. d s js (s .n + i)) (s .n - 1)
   sums-are =
       root-has (s .n) js o (λ k. sums s (node (s .n) js k)) (λ i. d s js (s .n + i)) sums-join
       ∙ rw (sum-none (λ k. sums s (node (s .n) js k)) (s .n) sums-sink) (omega arith)
 
-  -- "Total in half units: the sum of d over all joins, plus d(root)"
-  pub total-sums : sums s (node (s .n) js (2 * s .n - 2)) + d s js (2 * s .n - 2) ≡ total s js
-  total-sums = omega (arith, sums-are)
-
-  -- where no sink has a delay of its own, it is the total of the plane's theorems
-  pub halves-are : sumTo (s .wait) (s .n) ≡ 0 → halves s (node (s .n) js (2 * s .n - 2)) ≡ total s js
+  -- the total is that of the plane's theorems
+  pub halves-are : halves s (node (s .n) js (2 * s .n - 2)) ≡ total s js
   unfolding halves
-  halves-are z = omega (arith, total-sums)
+  halves-are = omega (arith, sums-are)

@@ -15,13 +15,13 @@ pub record Same (r r′ : Embedded) (us us′ vs vs′ : List ℤ) (ws ws′ : L
   pub vs-same : vs ≡ vs′
   pub ws-same : ws ≡ ws′
 
-pub only-embed : (xs ys : List ℤ) (js : List ℕ) (us vs : List ℤ) (ws : List ℕ) {r r′ : Embedded} {u u′ v v′ : List ℤ} {w w′ : List ℕ}
-    → Permitted xs ys js us vs ws r u v w → Permitted xs ys js us vs ws r′ u′ v′ w′ → Same r r′ u u′ v v′ w w′
-only-embed xs ys js us vs ws {r} {r′} p q =
+pub only-embed : (xs ys : List ℤ) (delays js : List ℕ) (us vs : List ℤ) (ws : List ℕ) {r r′ : Embedded} {u u′ v v′ : List ℤ} {w w′ : List ℕ}
+    → Permitted xs ys delays js us vs ws r u v w → Permitted xs ys delays js us vs ws r′ u′ v′ w′ → Same r r′ u u′ v v′ w w′
+only-embed xs ys delays js us vs ws {r} {r′} p q =
     let e : r ≡ r′ = p .answers ∙ sym (q .answers) in
     record {
       said = e;
-      us-same = p .writes-u ∙ ap (λ (a : Embedded). front (written a (placesU (sinksAt xs ys) js)) us) e ∙ sym (q .writes-u);
-      vs-same = p .writes-v ∙ ap (λ (a : Embedded). front (written a (placesV (sinksAt xs ys) js)) vs) e ∙ sym (q .writes-v);
-      ws-same = p .writes-w ∙ ap (λ (a : Embedded). front (written a (wires (sinksAt xs ys) js)) ws) e ∙ sym (q .writes-w);
+      us-same = p .writes-u ∙ ap (λ (a : Embedded). front (written a (placesU (sinksAt xs ys delays) js)) us) e ∙ sym (q .writes-u);
+      vs-same = p .writes-v ∙ ap (λ (a : Embedded). front (written a (placesV (sinksAt xs ys delays) js)) vs) e ∙ sym (q .writes-v);
+      ws-same = p .writes-w ∙ ap (λ (a : Embedded). front (written a (wires (sinksAt xs ys delays) js)) ws) e ∙ sym (q .writes-w);
     }

@@ -10,23 +10,23 @@ use lib.Seq.{getD-set-same, getD-set-other}
 use Rattle.lists.proofs.Tests.{or-lt}
 use Rattle.plane.specs.Measures.{lowered, raised}
 use Rattle.plane.specs.Boxes.{sinkBox, diamOf, Fair}
-use Rattle.plane.specs.Sinks.{sinksAt, Ranged}
+use Rattle.plane.specs.Sinks.{sinksAt, Placed}
+use Rattle.zero_skew.specs.Plane.{Sinks}
 use Rattle.plane.specs.Covers.{Covers}
 use Rattle.plane.specs.Spots.{rootOf, nearestOf}
 use Rattle.plane.proofs.Numbers.{raised-lowered}
-use Rattle.plane.proofs.Covering.{fair-diam}
+use Rattle.plane.proofs.Covering.{fair-diam, covers-sink, own-box, own-diam, moved-by}
 use Rattle.plane.specs.declared.boxes.Box.{Box}
 use Rattle.plane.specs.declared.segment.Spot.{Spot}
 use Rattle.embedding.specs.Table.{boxAt}
 use Rattle.embedding.specs.Arrays.{Rising}
 use Rattle.embedding.specs.Places.{Low, Sized, spotAt, SpotHeld, Has, Placeable, PutsSpot, Spots, PutsDown, PutsSinks}
-use Rattle.embedding.proofs.Upward.{sink-is, sink-diam}
 
 -- ---- places fit
-root-low : (hi d : ℕ) → hi ≤ 67000000 → 2 * hi - d ≤ 140000000
+root-low : (hi d : ℕ) → hi ≤ 78000000 → 2 * hi - d ≤ 184000000
 root-low hi d h = omega arith
 
-near-low : (lo hi d p : ℕ) → lo ≤ hi → hi ≤ 67000000 → d ≤ 6000000 → max (2 * hi - d) (min (2 * lo + d) p) ≤ 140000000
+near-low : (lo hi d p : ℕ) → lo ≤ hi → hi ≤ 78000000 → d ≤ 28000000 → max (2 * hi - d) (min (2 * lo + d) p) ≤ 184000000
 near-low lo hi d p h g l = omega arith
 
 pub low-root : {b : Box} → Fair b → Low (rootOf b)
@@ -143,45 +143,72 @@ open-at k w a b h =
     }
 
 -- ---- the sinks
-point-near : (a d p : ℕ) → d ≡ 0 → max (2 * a - d) (min (2 * a + d) p) ≡ 2 * a - d
-point-near a d p e = omega arith
+-- a range of one value
+one-value : (lo hi w d p : ℕ) → hi ≡ lo + 2 * w → d ≡ 2 * w → max (2 * hi - d) (min (2 * lo + d) p) ≡ 2 * hi - d
+one-value lo hi w d p e f = omega arith
 
-sink-near : (x y : ℤ) (p : Spot) → rootOf (sinkBox x y) ≡ nearestOf (sinkBox x y) p
-sink-near x y p = λ i. record {
-  u = record { 0 = sym (point-near (sinkBox x y .hu .0) (diamOf (sinkBox x y)) (p .u .0) (sink-diam x y)) i };
-  v = record { 0 = sym (point-near (sinkBox x y .hv .0) (diamOf (sinkBox x y)) (p .v .0) (sink-diam x y)) i };
+-- so no parent moves a sink
+pub sink-near : (s : Sinks) (k : ℕ) (b : Box) → Covers s (k ∷ []) b → (p : Spot) → rootOf b ≡ nearestOf b p
+sink-near s k b c p = λ i. record {
+  u = record { 0 = sym (one-value (b .lu .0) (b .hu .0) (s .wait k) (diamOf b) (p .u .0) (own-box s k b c .0) (own-diam s k b c)) i };
+  v = record { 0 = sym (one-value (b .lv .0) (b .hv .0) (s .wait k) (diamOf b) (p .v .0) (own-box s k b c .1) (own-diam s k b c)) i };
 }
+
+-- two boxes of one sink, with its delay and without, have one place
+one-middle : (lo hi d lo₀ hi₀ d₀ w : ℕ) → hi ≡ lo + 2 * w → d ≡ 2 * w → hi₀ ≡ lo₀ → d₀ ≡ 0 → lo + w ≡ lo₀ → 2 * hi₀ - d₀ ≡ 2 * hi - d
+one-middle lo hi d lo₀ hi₀ d₀ w a b e f g = omega arith
+
+pub sink-root : (xs ys : List ℤ) (delays : List ℕ) (k : ℕ) (b : Box) → Placed xs ys k → Covers (sinksAt xs ys delays) (k ∷ []) b → rootOf (sinkBox (getD xs k (pos 0)) (getD ys k (pos 0)) 0) ≡ rootOf b
+sink-root xs ys delays k b p c =
+    let o = sinkBox (getD xs k (pos 0)) (getD ys k (pos 0)) 0 in
+    let c₀ = covers-sink xs ys [] k (p .near-x) (p .near-y) (omega arith) in
+    let e = own-box (sinksAt xs ys delays) k b c in
+    let d = own-diam (sinksAt xs ys delays) k b c in
+    let e₀ = own-box (sinksAt xs ys []) k o c₀ in
+    let d₀ = own-diam (sinksAt xs ys []) k o c₀ in
+    let m = moved-by xs ys delays k b o c c₀ in
+    λ i. record {
+      u = record { 0 = one-middle (b .lu .0) (b .hu .0) (diamOf b) (o .lu .0) (o .hu .0) (diamOf o) (getD delays k 0) (e .0) d (omega (arith, e₀ .0)) (omega (arith, d₀)) (m .0) i };
+      v = record { 0 = one-middle (b .lv .0) (b .hv .0) (diamOf b) (o .lv .0) (o .hv .0) (diamOf o) (getD delays k 0) (e .1) d (omega (arith, e₀ .1)) (omega (arith, d₀)) (m .1) i };
+    }
+
+-- the box of a place
+pub flat : {xs ys : List ℤ} {k : ℕ} {b : Box} → Placed xs ys k → b ≡ sinkBox (getD xs k (pos 0)) (getD ys k (pos 0)) 0 → Fair b × (0 ≡ diamOf b)
+flat {xs} {ys} {k} {b} p e =
+    let c : Covers (sinksAt xs ys []) (k ∷ []) b = subst (Covers (sinksAt xs ys []) (k ∷ [])) (sym e) (covers-sink xs ys [] k (p .near-x) (p .near-y) (omega arith)) in
+    (c .fair, omega (arith, own-diam (sinksAt xs ys []) k b c))
 
 module _ {xs ys : List ℤ} where
   pub sinks-begin : {us vs : List ℤ} → PutsSinks xs ys 0 us vs us vs
   sinks-begin = record { own = λ k h. absurd (omega arith); kept-u = λ k h. refl; kept-v = λ k h. refl }
 
-  pub sinks-more : {k : ℕ} {b : Box} {p : Spot} {old-u old-v us vs us′ vs′ : List ℤ} → Ranged xs ys → k < length xs → Covers (sinksAt xs ys) (k ∷ []) b → p ≡ rootOf b → Has us vs k → PutsSinks xs ys k old-u old-v us vs
+  pub sinks-more : {k : ℕ} {b : Box} {p : Spot} {old-u old-v us vs us′ vs′ : List ℤ} → Fair b → b ≡ sinkBox (getD xs k (pos 0)) (getD ys k (pos 0)) 0 → p ≡ rootOf b → Has us vs k → PutsSinks xs ys k old-u old-v us vs
       → PutsSpot k p us vs us′ vs′ → PutsSinks xs ys (k + 1) old-u old-v us′ vs′
-  sinks-more {k} {b} {p} {old-u} {old-v} {us} {vs} {us′} {vs′} r h c e has made w =
+  sinks-more {k} {b} {p} {old-u} {old-v} {us} {vs} {us′} {vs′} f e g has made w =
       record {
         own = λ i l. ⊎-elim (λ g. same-held us vs us′ vs′ i (other-u w i (λ q. omega arith)) (other-v w i (λ q. omega arith)) (made .own i g)) (λ g. let q : k ≡ i = omega arith in rw q at here) (or-lt i k);
         kept-u = λ i l. other-u w i (λ q. omega arith) ∙ made .kept-u i (omega arith);
         kept-v = λ i l. other-v w i (λ q. omega arith) ∙ made .kept-v i (omega arith);
       }
     where
-      here : SpotHeld us′ vs′ k (rootOf (sinkBox (getD xs k (pos 0)) (getD ys k (pos 0))))
-      here = subst (SpotHeld us′ vs′ k) (e ∙ ap rootOf (sink-is xs ys r k h b c)) (put-here w (subst Low (sym e) (low-root (c .fair))) has)
+      here : SpotHeld us′ vs′ k (rootOf (sinkBox (getD xs k (pos 0)) (getD ys k (pos 0)) 0))
+      here = subst (SpotHeld us′ vs′ k) (g ∙ ap rootOf e) (put-here w (subst Low (sym g) (low-root f)) has)
 
   -- with the sinks, all nodes have their places
-  pub spots-all : {bs ps : List ℕ} {us vs us′ vs′ : List ℤ} → Rising (length xs) ps → ((k : ℕ) → k < length xs → boxAt bs k ≡ sinkBox (getD xs k (pos 0)) (getD ys k (pos 0)))
+  pub spots-all : {bs ps : List ℕ} {us vs us′ vs′ : List ℤ} → Rising (length xs) ps
+      → ((k : ℕ) → k < length xs → rootOf (sinkBox (getD xs k (pos 0)) (getD ys k (pos 0)) 0) ≡ rootOf (boxAt bs k)) → ((k : ℕ) → k < length xs → (p : Spot) → rootOf (boxAt bs k) ≡ nearestOf (boxAt bs k) p)
       → Spots (length xs) bs ps (length xs) us vs → PutsSinks xs ys (length xs) us vs us′ vs′ → Spots (length xs) bs ps 0 us′ vs′
-  spots-all {bs} {ps} {us} {vs} {us′} {vs′} rise point made w =
+  spots-all {bs} {ps} {us} {vs} {us′} {vs′} rise stands still made w =
       record {
         root = ⊎-elim (λ g. own (2 * length xs - 2) g) (λ g. kept (2 * length xs - 2) g (made .root)) (or-lt (2 * length xs - 2) (length xs));
         next = λ k h l. ⊎-elim (λ g. near k g (spotAt us′ vs′ (getD ps k 0))) (λ g. above k g l (kept k g (made .next k g l))) (or-lt k (length xs));
       }
     where
       own : (k : ℕ) → k < length xs → SpotHeld us′ vs′ k (rootOf (boxAt bs k))
-      own k g = subst (λ (b : Box). SpotHeld us′ vs′ k (rootOf b)) (sym (point k g)) (w .own k g)
+      own k g = subst (SpotHeld us′ vs′ k) (stands k g) (w .own k g)
 
       near : (k : ℕ) → k < length xs → (p : Spot) → SpotHeld us′ vs′ k (nearestOf (boxAt bs k) p)
-      near k g p = subst (λ (b : Box). SpotHeld us′ vs′ k (nearestOf b p)) (sym (point k g)) (subst (SpotHeld us′ vs′ k) (sink-near (getD xs k (pos 0)) (getD ys k (pos 0)) p) (w .own k g))
+      near k g p = subst (SpotHeld us′ vs′ k) (still k g p) (own k g)
 
       kept : (k : ℕ) → length xs ≤ k → {p : Spot} → SpotHeld us vs k p → SpotHeld us′ vs′ k p
       kept k g {p} z = same-held us vs us′ vs′ k (w .kept-u k g) (w .kept-v k g) z

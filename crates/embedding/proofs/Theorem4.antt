@@ -1,11 +1,12 @@
 -- Document 000, Theorem 4, doubled: the wires add up to the total.
 use mathlib.Core.Path.{_≡_}
 use mathlib.Core.List.{List}
-use Prim.Native.Nat.{ℕ, suc, _+_, _-_, _*_, _<_}
+use Prim.Native.Nat.{ℕ, suc, _+_, _-_, _*_, _≤_, _<_}
 use native.Mathlib.Omega.{arith}
 use borrow.Author.Tests.{lt-ltb, le-ltb}
 use Rattle.lists.specs.Grow.{sumTo}
-use Rattle.lists.proofs.Sums.{sum-none}
+use Rattle.lists.proofs.Grow.{sum-same}
+use Rattle.lists.proofs.Sums.{sum-plus}
 use Rattle.zero_skew.specs.Plane.{Sinks}
 use Rattle.zero_skew.specs.Order.{sums}
 use Rattle.zero_skew.proofs.Placed.{diam-one}
@@ -15,7 +16,7 @@ use Rattle.embedding.specs.Nodes.{node, d, parent, wire}
 use Rattle.embedding.specs.Embedding.{total}
 use Rattle.embedding.proofs.Parents.{parent-left, parent-right}
 use Rattle.embedding.proofs.Orders.{below-sink, rises}
-use Rattle.embedding.proofs.Joined.{over-pairs, root-has, sums-sink, sums-join, total-sums}
+use Rattle.embedding.proofs.Joined.{over-pairs, root-has, sums-sink, sums-join, sums-are}
 
 module _ (s : Sinks) (js : List ℕ) (o : Ordered (s .n) js) where
   pub wire-is : (k : ℕ) → k < 2 * s .n - 2 → wire s js k ≡ d s js (parent (s .n) js k) - d s js k
@@ -41,11 +42,12 @@ module _ (s : Sinks) (js : List ℕ) (o : Ordered (s .n) js) where
         made-up (right js i) (s .n + i) (omega (arith, o .valid .low-right i h)) (parent-right (s .n) js o i h),
       )
 
-  at-sink : ((i : ℕ) → s .wait i ≡ 0) → (k : ℕ) → k < s .n → below-node k ≡ 0
-  at-sink still k h = rw (sums-sink s js o k h, below-sink (s .n) js o k h, diam-one s k, still k)
+  at-sink : (k : ℕ) → k < s .n → below-node k ≡ s .wait k + s .wait k
+  at-sink k h = rw (sums-sink s js o k h, below-sink (s .n) js o k h, diam-one s k) (omega arith)
 
-  pub wires-add-up : ((i : ℕ) → s .wait i ≡ 0) → sumTo (wire s js) (2 * s .n - 1) ≡ total s js
-  wires-add-up still =
+  -- the wires, and each sink's delay to either side of it, make up the diameters
+  wires-and-delays : sumTo (wire s js) (2 * s .n - 1) + 2 * sumTo (s .wait) (s .n) ≡ sumTo (λ i. d s js (s .n + i)) (s .n - 1) + d s js (2 * s .n - 2)
+  wires-and-delays =
       let z = o .some in
       let e : 2 * s .n - 1 ≡ suc (2 * s .n - 2) = omega arith in
       rw e
@@ -54,6 +56,14 @@ module _ (s : Sinks) (js : List ℕ) (o : Ordered (s .n) js) where
         wire-root,
         over-pairs (s .n) js o (wire s js),
         root-has (s .n) js o below-node (λ i. wire s js (left js i) + wire s js (right js i)) step,
-        sum-none below-node (s .n) (at-sink still),
-        total-sums s js o,
+        sum-same below-node (λ k. s .wait k + s .wait k) (s .n) at-sink,
+        sum-plus (s .wait) (s .wait) (s .n),
+        sums-are s js o,
       ))
+
+  -- so the delays never cut the total short
+  pub not-cut : 2 * sumTo (s .wait) (s .n) ≤ sumTo (λ i. d s js (s .n + i)) (s .n - 1) + d s js (2 * s .n - 2)
+  not-cut = omega (arith, wires-and-delays)
+
+  pub wires-add-up : sumTo (wire s js) (2 * s .n - 1) ≡ total s js
+  wires-add-up = omega (arith, wires-and-delays)

@@ -6,50 +6,45 @@ use Prim.Native.Nat.{ℕ, zero, suc, _+_, _-_, _*_, _≤_, _<_}
 use native.Mathlib.Omega.{arith}
 use borrow.Author.Tests.{eqb-true, eqb-false, ltb-true, ltb-false}
 use lib.Dec.{eqb, ltb}
-use lib.IntN.{ℤ, pos}
+use lib.IntN.{ℤ}
 use lib.ListN.{length, getD, set, length-set}
 use lib.Seq.{getD-set-same, getD-set-other}
 use Rattle.lists.specs.Grow.{sumTo}
 use Rattle.lists.proofs.Grow.{each-more, sum-same, sum-more}
 use Rattle.zero_skew.specs.Plane.{Sinks}
-use Rattle.plane.specs.Boxes.{sinkBox, hullOf, diamOf, InOrder, Fair}
-use Rattle.plane.specs.Sinks.{sinksAt, Ranged}
+use Rattle.plane.specs.Boxes.{hullOf, diamOf, InOrder, Fair}
+use Rattle.plane.specs.Sinks.{sinksAt}
 use Rattle.plane.specs.Covers.{Covers}
-use Rattle.plane.proofs.Checks.{in-both}
-use Rattle.plane.proofs.Covering.{fair-diam, fair-hull, covers-sink, covers-hull, covers-box}
-use Rattle.plane.proofs.Unlifted.{bounds-once}
+use Rattle.plane.proofs.Covering.{fair-diam, fair-hull, covers-hull, own-diam}
 use Rattle.plane.specs.declared.boxes.Box.{Box}
 use Rattle.embedding.specs.Joins.{left, right}
 use Rattle.embedding.specs.Sound.{Ordered, Sound}
 use Rattle.embedding.specs.Nodes.{node, below}
 use Rattle.embedding.specs.Table.{boxAt, Puts, Sinked}
-use Rattle.embedding.specs.Arrays.{Boxes, NodeRoom, Cleared, Up, PutsJoin, PutsJoins, AllNodes}
+use Rattle.embedding.specs.Arrays.{Boxes, NodeRoom, PutsOwn, Up, PutsJoin, PutsJoins, AllNodes}
 use Rattle.embedding.proofs.Boxing.{puts-each}
 use Rattle.embedding.proofs.Parents.{parents-more, parents-done}
 use Rattle.embedding.proofs.Orders.{sinks-some, below-sink, below-join}
 
 -- ---- sinks
--- the box of a sink is its point
-pub sink-is : (xs ys : List ℤ) → Ranged xs ys → (k : ℕ) → k < length xs → (b : Box) → Covers (sinksAt xs ys) (k ∷ []) b → b ≡ sinkBox (getD xs k (pos 0)) (getD ys k (pos 0))
-sink-is xs ys r k h b c =
-    let s = sinksAt xs ys in
-    let o = sinkBox (getD xs k (pos 0)) (getD ys k (pos 0)) in
-    let i = in-both xs ys r k h in
-    bounds-once b o (covers-box s (k ∷ []) b c ∙ sym (covers-box s (k ∷ []) o (covers-sink xs ys k (i .0) (i .1))))
+-- one sink's own diameter more
+pub own-begin : {delays ds : List ℕ} → PutsOwn delays 0 0 ds
+own-begin = record { own = λ k h. absurd (omega arith); sums = refl; low = omega arith }
 
-pub sink-diam : (x y : ℤ) → diamOf (sinkBox x y) ≡ 0
-unfolding diamOf
-sink-diam x y = omega arith
+pub own-more : {delays : List ℕ} {k sum d : ℕ} {ds : List ℕ} → k < length ds → getD delays k 0 ≤ 6000000 → d ≡ 2 * getD delays k 0 → PutsOwn delays k sum ds → PutsOwn delays (k + 1) (sum + d) (set ds k d)
+own-more {delays} {k} {sum} {d} {ds} room l e w =
+    record {
+      own = each-more (λ (i : ℕ) (x : ℕ). x ≡ 2 * getD delays i 0) ds k d 0 room e (w .own);
+      sums = omega (arith, w .sums, sum-more (λ (i : ℕ). getD delays i 0) k);
+      low = omega (arith, w .low);
+    }
 
-pub sink-flat : {xs ys : List ℤ} {k : ℕ} {b : Box} → Ranged xs ys → k < length xs → Covers (sinksAt xs ys) (k ∷ []) b → diamOf b ≡ 0
-sink-flat {xs} {ys} {k} {b} r h c = ap diamOf (sink-is xs ys r k h b c) ∙ sink-diam (getD xs k (pos 0)) (getD ys k (pos 0))
-
-pub up-begin : {xs ys : List ℤ} {js bs ds ps : List ℕ} → Ranged xs ys → NodeRoom (length xs) bs ds ps → Cleared (length xs) ds → Sinked xs ys (length xs) bs → Up (length xs) js 0 bs ds ps
-up-begin {xs} {ys} {js} {bs} {ds} {ps} r room blank w =
+pub up-begin : {xs ys : List ℤ} {delays js bs ds ps : List ℕ} {sum : ℕ} → length xs ≡ length delays → NodeRoom (length xs) bs ds ps → PutsOwn delays (length delays) sum ds → Sinked xs ys delays (length xs) bs → Up (length xs) js 0 bs ds ps
+up-begin {xs} {ys} {delays} {js} {bs} {ds} {ps} {sum} e room own w =
     record {
       room = room;
       fair = λ k h. w .covers k (omega arith) .fair;
-      sized = λ k h. blank k (omega arith) ∙ sym (sink-flat r (omega arith) (w .covers k (omega arith)));
+      sized = λ k h. own .own k (omega arith) ∙ sym (own-diam (sinksAt xs ys delays) k (boxAt bs k) (w .covers k (omega arith)));
       hulls = λ j h. absurd (omega arith);
       named = λ j h. absurd (omega arith);
     }
@@ -154,8 +149,8 @@ module _ (s : Sinks) (js : List ℕ) (o : Ordered (s .n) js) (bs : List ℕ)
           (sinks-some (node (s .n) js (left js m))) (sinks-some (node (s .n) js (right js m)))
           (all (left js m) (o .valid .low-left m (omega arith))) (all (right js m) (o .valid .low-right m (omega arith)))))
 
-pub joins-made : {xs ys : List ℤ} {js old : List ℕ} {sum : ℕ} {bs ds ps : List ℕ} → Sound xs ys js → Sinked xs ys (length xs) old → PutsJoins (length xs) js (length xs - 1) old sum bs ds ps → AllNodes (sinksAt xs ys) js bs ds ps
-joins-made {xs} {ys} {js} {old} {sum} {bs} {ds} {ps} sound put w =
+pub joins-made : {xs ys : List ℤ} {delays js old : List ℕ} {sum : ℕ} {bs ds ps : List ℕ} → Sound xs ys delays js → Sinked xs ys delays (length xs) old → PutsJoins (length xs) js (length xs - 1) old sum bs ds ps → AllNodes (sinksAt xs ys delays) js bs ds ps
+joins-made {xs} {ys} {delays} {js} {old} {sum} {bs} {ds} {ps} sound put w =
     let n = length xs in
     let o = sound .joins in
     let some = o .some in
@@ -163,8 +158,8 @@ joins-made {xs} {ys} {js} {old} {sum} {bs} {ds} {ps} sound put w =
       ordered = o;
       room = w .up .room;
       boxed = λ k h.
-          covered (sinksAt xs ys) js o bs
-          (λ i g. subst (λ (b : Box). Covers (sinksAt xs ys) (i ∷ []) b) (sym (w .sinks i g)) (put .covers i g))
+          covered (sinksAt xs ys delays) js o bs
+          (λ i g. subst (λ (b : Box). Covers (sinksAt xs ys delays) (i ∷ []) b) (sym (w .sinks i g)) (put .covers i g))
           (w .up .hulls) (n - 1) (omega arith) k (omega arith);
       sized = λ k h. w .up .sized k (omega arith);
       named = parents-done n js o ps (w .up .named);

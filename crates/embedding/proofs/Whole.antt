@@ -2,7 +2,7 @@
 use mathlib.Core.Path.{_≡_, refl, sym, ap, subst, _∙_}
 use mathlib.Core.Logic.{⊎-elim}
 use mathlib.Core.Bool.{Bool, true, false, cond}
-use mathlib.Core.List.{List}
+use mathlib.Core.List.{List, [], _∷_}
 use Prim.Native.Nat.{ℕ, _+_, _-_, _*_, _≤_, _<_}
 use native.Mathlib.Omega.{arith}
 use borrow.Author.Tests.{ltb-true}
@@ -14,8 +14,8 @@ use Rattle.lists.specs.Grow.{tab, front, sumTo}
 use Rattle.lists.proofs.Tests.{or-lt}
 use Rattle.lists.proofs.Grow.{length-grow, getD-tab, tab-same, sum-same}
 use Rattle.zero_skew.specs.Plane.{Sinks, u, v}
-use Rattle.plane.specs.Boxes.{sinkBox, diamOf}
-use Rattle.plane.specs.Sinks.{sinksAt, Ranged}
+use Rattle.plane.specs.Boxes.{diamOf}
+use Rattle.plane.specs.Sinks.{sinksAt}
 use Rattle.plane.specs.Covers.{Covers}
 use Rattle.plane.proofs.Lifted.{unlift}
 use Rattle.plane.proofs.Covering.{fair-diam, covers-diam}
@@ -24,12 +24,12 @@ use Rattle.embedding.specs.Nodes.{d, below, parent, value, wire}
 use Rattle.embedding.specs.Embedding.{placesU, placesV, wires, total}
 use Rattle.embedding.specs.Table.{boxAt}
 use Rattle.embedding.specs.Arrays.{Fairs, Rising, AllNodes, Longer, Climbs, wireIn}
-use Rattle.embedding.specs.Places.{Sized, spotAt, Spots, PutsDown, PutsSinks}
+use Rattle.embedding.specs.Places.{Sized, AllPlaced, spotAt, Spots, PutsDown, PutsSinks}
 use Rattle.embedding.proofs.Parents.{parent-above}
 use Rattle.embedding.proofs.Orders.{below-sink, rises}
-use Rattle.embedding.proofs.Upward.{sink-is}
+use Rattle.embedding.proofs.Theorem4.{not-cut}
 use Rattle.embedding.proofs.Lifting.{value-lifts}
-use Rattle.embedding.proofs.Spots.{spot-is, spots-held, spots-all}
+use Rattle.embedding.proofs.Spots.{spot-is, spots-held, sink-near, sink-root, spots-all}
 
 module _ {s : Sinks} {js bs ds ps : List ℕ} (m : AllNodes s js bs ds ps) where
   abbrev n : ℕ
@@ -46,9 +46,6 @@ module _ {s : Sinks} {js bs ds ps : List ℕ} (m : AllNodes s js bs ds ps) where
 
   size-is : (k : ℕ) → k < 2 * n - 1 → getD ds k 0 ≡ d s js k
   size-is k h = m .sized k h ∙ diam-is k h
-
-  pub short : (k : ℕ) → k < 2 * n - 1 → getD ds k 0 ≤ 6000000
-  short k h = rw (m .sized k h) (fair-diam (fairs k h))
 
   longer : Longer n ds ps
   longer k h =
@@ -83,13 +80,21 @@ module _ {s : Sinks} {js bs ds ps : List ℕ} (m : AllNodes s js bs ds ps) where
   pub wires-are : tab (wireIn n ds ps) (2 * n - 1) ≡ wires s js
   wires-are = tab-same (wireIn n ds ps) (wire s js) (2 * n - 1) (λ k h. wire-is k)
 
-  pub total-is : sumTo (λ i. getD ds (n + i) 0) (n - 1) + getD ds (2 * n - 2) 0 ≡ total s js
-  total-is =
+  gross-is : sumTo (λ i. getD ds (n + i) 0) (n - 1) + getD ds (2 * n - 2) 0 ≡ sumTo (λ i. d s js (n + i)) (n - 1) + d s js (2 * n - 2)
+  gross-is =
       let o = m .ordered .some in
       rw (sum-same (λ i. getD ds (n + i) 0) (λ i. d s js (n + i)) (n - 1) (λ i h. size-is (n + i) (omega arith)), size-is (2 * n - 2) (omega arith))
 
+  -- the sum of the diameters of the joins, and that of the sinks' own
+  module _ {sum own : ℕ} (joins : sum ≡ sumTo (λ i. getD ds (n + i) 0) (n - 1)) (sinks : own ≡ 2 * sumTo (s .wait) n) where
+    pub own-less : own ≤ sum + getD ds (2 * n - 2) 0
+    own-less = omega (arith, gross-is, not-cut s js (m .ordered))
+
+    pub total-is : sum + getD ds (2 * n - 2) 0 - own ≡ total s js
+    total-is = omega (arith, gross-is)
+
   module _ {us vs : List ℤ} (w : Spots n bs ps 0 us vs) where
-    fit : (k x : ℕ) → k < 2 * n - 1 → 61000000 ≤ x → d s js k ≤ 2 * x
+    fit : (k x : ℕ) → k < 2 * n - 1 → 50000000 ≤ x → d s js k ≤ 2 * x
     fit k x h l = omega (arith, fair-diam (fairs k h), diam-is k h)
 
     u-is : (k : ℕ) → k < 2 * n - 1 → getD us k (pos 0) ≡ value s (u s) js k
@@ -137,18 +142,17 @@ front-is {A} g m a old new e h made kept = ext-getD a new (front (tab g m) old) 
         (or-lt k m)
 
 -- the buffers before, after the joins, and after the sinks
-pub places-are : {xs ys : List ℤ} {js bs ds ps : List ℕ} {us vs mid-u mid-v us′ vs′ : List ℤ} → Ranged xs ys → AllNodes (sinksAt xs ys) js bs ds ps
+pub places-are : {xs ys : List ℤ} (delays : List ℕ) {js bs ds ps : List ℕ} {us vs mid-u mid-v us′ vs′ : List ℤ} → AllPlaced xs ys → AllNodes (sinksAt xs ys delays) js bs ds ps
     → 2 * length xs - 1 ≤ length us → 2 * length xs - 1 ≤ length vs → length us′ ≡ length us → length vs′ ≡ length vs
     → PutsDown (length xs) bs ps (length xs) us vs mid-u mid-v → PutsSinks xs ys (length xs) mid-u mid-v us′ vs′
-    → (us′ ≡ front (placesU (sinksAt xs ys) js) us) × (vs′ ≡ front (placesV (sinksAt xs ys) js) vs)
-places-are {xs} {ys} {js} {bs} {ds} {ps} {us} {vs} {mid-u} {mid-v} {us′} {vs′} r m a b p q down own =
-    let s = sinksAt xs ys in
-    let all : Spots (length xs) bs ps 0 us′ vs′ = spots-all (rising m) point (down .spots) own in (
+    → (us′ ≡ front (placesU (sinksAt xs ys delays) js) us) × (vs′ ≡ front (placesV (sinksAt xs ys delays) js) vs)
+places-are {xs} {ys} delays {js} {bs} {ds} {ps} {us} {vs} {mid-u} {mid-v} {us′} {vs′} r m a b p q down own =
+    let s = sinksAt xs ys delays in
+    let all : Spots (length xs) bs ps 0 us′ vs′ =
+    spots-all (rising m) (λ k h. sink-root xs ys delays k (boxAt bs k) (r k h) (covers k h)) (λ k h. sink-near s k (boxAt bs k) (covers k h)) (down .spots) own in (
       front-is (value s (u s) js) (2 * length xs - 1) (pos 0) us us′ p a (u-is m all) (λ k h. own .kept-u k (omega arith) ∙ down .kept-u k h),
       front-is (value s (v s) js) (2 * length xs - 1) (pos 0) vs vs′ q b (v-is m all) (λ k h. own .kept-v k (omega arith) ∙ down .kept-v k h),
     )
   where
-    point : (k : ℕ) → k < length xs → boxAt bs k ≡ sinkBox (getD xs k (pos 0)) (getD ys k (pos 0))
-    point k h =
-        sink-is xs ys r k h (boxAt bs k)
-        (subst (λ (l : List ℕ). Covers (sinksAt xs ys) l (boxAt bs k)) (below-sink (length xs) js (m .ordered) k h) (m .boxed k (omega arith)))
+    covers : (k : ℕ) → k < length xs → Covers (sinksAt xs ys delays) (k ∷ []) (boxAt bs k)
+    covers k h = subst (λ (l : List ℕ). Covers (sinksAt xs ys delays) l (boxAt bs k)) (below-sink (length xs) js (m .ordered) k h) (m .boxed k (omega arith))

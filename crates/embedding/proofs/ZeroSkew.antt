@@ -5,9 +5,8 @@ use Prim.Native.Nat.{ℕ, _-_, _*_, _<_}
 use native.Mathlib.Omega.{arith}
 use lib.IntN.{ℤ, pos}
 use lib.ListN.{length, getD, drop, List·getD-append}
-use Rattle.lists.specs.Grow.{tab, front, sumTo}
+use Rattle.lists.specs.Grow.{tab, front}
 use Rattle.lists.proofs.Grow.{length-grow, sum-same, getD-tab}
-use Rattle.lists.proofs.Sums.{sum-none}
 use Rattle.zero_skew.specs.Plane.{Sinks, u, v}
 use Rattle.zero_skew.specs.Order.{Order, one, both, order, embed}
 use Rattle.zero_skew.proofs.DeferredMerge.{is-deferred-merge}
@@ -23,7 +22,8 @@ use Rattle.plane.specs.Refusals.{andThen}
 use Rattle.embedding.specs.Sound.{Ordered, Sound, Embeds}
 use Rattle.embedding.specs.Permitted.{Permitted}
 use Rattle.embedding.specs.Described.{Level}
-use Rattle.embedding.proofs.Accepted.{both-pass, order-sound}
+use Rattle.plane.proofs.Checks.{both-pass}
+use Rattle.embedding.proofs.Bounded.{order-sound}
 use Rattle.embedding.proofs.Joined.{over, halves-are}
 use Rattle.embedding.proofs.Theorem4.{wires-add-up}
 use Rattle.embedding.proofs.Described.{Holds, described-is}
@@ -33,23 +33,20 @@ unfolding order embed
 embed-order s (one i) U V′ = refl
 embed-order s (both l r) U V′ = rw (embed-order s l _ _, embed-order s r _ _)
 
-module _ (s : Sinks) (still : (i : ℕ) → s .wait i ≡ 0) (js : List ℕ) (o : Ordered (s .n) js) where
+module _ (s : Sinks) (js : List ℕ) (o : Ordered (s .n) js) where
   abbrev root : Order
   root = node (s .n) js (2 * s .n - 2)
-
-  no-waits : sumTo (s .wait) (s .n) ≡ 0
-  no-waits = sum-none (s .wait) (s .n) (λ i h. still i)
 
   pub level : (us vs : List ℤ) (ws : List ℕ) → Holds s js us vs ws → Level s js us vs ws (total s js)
   level us vs ws holds =
       let e = described-is s js o us vs ws holds in
-      let t = halves-are s js o no-waits in
+      let t = halves-are s js o in
       record {
         zero-skew = rw e (embedded-zero-skew s root (over s js o));
         paths = rw e (embedded-paths s root);
         joined = rw e (embed-order s root _ _);
         long = rw e (embedded-wire s root (over s js o) ∙ ap (λ (m : ℕ). 2 * m) t);
-        sums = sum-same (λ k. getD ws k 0) (wire s js) (2 * s .n - 1) (holds .ws-are) ∙ wires-add-up s js o still;
+        sums = sum-same (λ k. getD ws k 0) (wire s js) (2 * s .n - 1) (holds .ws-are) ∙ wires-add-up s js o;
         least = λ k g z a. rw (← t) (least-for-order s root (over s js o) k g z a);
         deferred = rw e (is-deferred-merge s root);
       }
@@ -61,12 +58,12 @@ front-at f m old k e h =
     List·getD-append (tab f m) (drop (length (tab f m)) old) e k (omega (arith, length-grow (λ l. f (length l)) m))
     ∙ getD-tab f m k e h
 
-pub embeds-level : (xs ys : List ℤ) (js : List ℕ) (us vs : List ℤ) (ws : List ℕ) (t : ℕ) (us′ vs′ : List ℤ) (ws′ : List ℕ)
-    → Sound xs ys js → Embeds xs ys js us vs ws t us′ vs′ ws′ → Level (sinksAt xs ys) js us′ vs′ ws′ t
-embeds-level xs ys js us vs ws t us′ vs′ ws′ sound e =
-    let s = sinksAt xs ys in
+pub embeds-level : (xs ys : List ℤ) (delays js : List ℕ) (us vs : List ℤ) (ws : List ℕ) (t : ℕ) (us′ vs′ : List ℤ) (ws′ : List ℕ)
+    → Sound xs ys delays js → Embeds xs ys delays js us vs ws t us′ vs′ ws′ → Level (sinksAt xs ys delays) js us′ vs′ ws′ t
+embeds-level xs ys delays js us vs ws t us′ vs′ ws′ sound e =
+    let s = sinksAt xs ys delays in
     rw (e .sums)
-    (level s (λ i. refl) js (sound .joins) us′ vs′ ws′
+    (level s js (sound .joins) us′ vs′ ws′
     (record {
       us-are = λ k h. rw (e .writes-u) (front-at (value s (u s) js) (2 * length xs - 1) us k (pos 0) h);
       vs-are = λ k h. rw (e .writes-v) (front-at (value s (v s) js) (2 * length xs - 1) vs k (pos 0) h);
@@ -79,12 +76,12 @@ after-tree Fine m t q = (refl, cc)
 after-tree (Refused r) m t q = let z : _≡_ {A = ℕ} 0 1 = cc in let b : ⊥ = omega arith in absurd b
 
 -- from the contract of `embed` alone
-pub accepted-level : (xs ys : List ℤ) (js : List ℕ) (us vs : List ℤ) (ws : List ℕ) (t : ℕ) (us′ vs′ : List ℤ) (ws′ : List ℕ)
-    → Permitted xs ys js us vs ws (Tree t) us′ vs′ ws′ → Level (sinksAt xs ys) js us′ vs′ ws′ t
+pub accepted-level : (xs ys : List ℤ) (delays js : List ℕ) (us vs : List ℤ) (ws : List ℕ) (t : ℕ) (us′ vs′ : List ℤ) (ws′ : List ℕ)
+    → Permitted xs ys delays js us vs ws (Tree t) us′ vs′ ws′ → Level (sinksAt xs ys delays) js us′ vs′ ws′ t
 unfolding answer
-accepted-level xs ys js us vs ws t us′ vs′ ws′ p =
+accepted-level xs ys delays js us vs ws t us′ vs′ ws′ p =
     let rooms = checkRoom (2 * length xs - 1) (length us) (length vs) (length ws) in
-    let (a, q) = after-tree (andThen (checkOrder xs ys js) rooms) (total (sinksAt xs ys) js) t (p .answers) in
-    let (b, _) = both-pass (checkOrder xs ys js) rooms a in
-    embeds-level xs ys js us vs ws t us′ vs′ ws′ (order-sound xs ys js b)
+    let (a, q) = after-tree (andThen (checkOrder xs ys delays js) rooms) (total (sinksAt xs ys delays) js) t (p .answers) in
+    let (b, _) = both-pass (checkOrder xs ys delays js) rooms a in
+    embeds-level xs ys delays js us vs ws t us′ vs′ ws′ (order-sound xs ys delays js b)
     (record { sums = q; writes-u = p .writes-u; writes-v = p .writes-v; writes-w = p .writes-w })

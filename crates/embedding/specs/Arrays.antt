@@ -7,6 +7,7 @@ use lib.Dec.{ltb}
 use lib.ListN.{length, getD, set}
 use Rattle.lists.specs.Grow.{sumTo}
 use Rattle.zero_skew.specs.Plane.{Sinks}
+use Rattle.plane.specs.Range.{Brief}
 use Rattle.plane.specs.Boxes.{hullOf, diamOf, Fair}
 use Rattle.plane.specs.Covers.{Covers}
 use Rattle.embedding.specs.Joins.{left, right}
@@ -37,9 +38,17 @@ pub record NodeRoom (n : ℕ) (bs ds ps : List ℕ) : Type 0 where
   pub diameters : 2 * n - 1 ≤ length ds
   pub parents : 2 * n - 1 ≤ length ps
 
--- a cleared list: no sink has a diameter
-abbrev pub Cleared : ℕ → List ℕ → Type 0
-Cleared n ds = (k : ℕ) → k < n → getD ds k 0 ≡ 0
+-- delays that the code's numbers hold, and room for twice each
+pub record OwnRoom (delays ds : List ℕ) : Type 0 where
+  pub few : length delays ≤ 512
+  pub brief : (i : ℕ) → Brief (getD delays i 0)
+  pub room : length delays ≤ length ds
+
+-- the first m sinks' own diameters are put, and their sum
+pub record PutsOwn (delays : List ℕ) (m sum : ℕ) (ds′ : List ℕ) : Type 0 where
+  pub own : (k : ℕ) → k < m → getD ds′ k 0 ≡ 2 * getD delays k 0
+  pub sums : sum ≡ 2 * sumTo (λ k. getD delays k 0) m
+  pub low : sum ≤ 12000000 * m
 
 -- the nodes of n sinks and of the first i joins are in the arrays
 pub record Up (n : ℕ) (js : List ℕ) (i : ℕ) (bs ds ps : List ℕ) : Type 0 where
@@ -60,7 +69,7 @@ pub record PutsJoins (n : ℕ) (js : List ℕ) (i : ℕ) (bs : List ℕ) (sum : 
   pub up : Up n js i bs′ ds′ ps′
   pub sinks : (k : ℕ) → k < n → boxAt bs′ k ≡ boxAt bs k
   pub sums : sum ≡ sumTo (λ j. getD ds′ (n + j) 0) i
-  pub low : sum ≤ 6000000 * i
+  pub low : sum ≤ 28000000 * i
 
 -- the arrays of all nodes
 pub record AllNodes (s : Sinks) (js : List ℕ) (bs ds ps : List ℕ) : Type 0 where

@@ -26,13 +26,13 @@ placesV s js = tab (value s (v s) js) (2 * s .n - 1)
 abbrev pub wires : Sinks → List ℕ → List ℕ
 wires s js = tab (wire s js) (2 * s .n - 1)
 
--- "Total in half units: the sum of d over all joins, plus d(root)."
+-- "the total is the sum of d over joins plus d(root) minus twice the sum of w" (the difference is never cut short at 0: proofs/Theorem4, `not-cut`)
 abbrev pub total : Sinks → List ℕ → ℕ
-total s js = sumTo (λ i. d s js (s .n + i)) (s .n - 1) + d s js (2 * s .n - 2)
+total s js = sumTo (λ i. d s js (s .n + i)) (s .n - 1) + d s js (2 * s .n - 2) - 2 * sumTo (s .wait) (s .n)
 
--- refusals 1 to 4 and 6
-unfoldable pub checkOrder : List ℤ → List ℤ → List ℕ → Checked
-checkOrder xs ys js = andThen (checkSinks 512 xs ys) (checkJoins (length xs) js)
+-- refusals 1 to 4, 15 and 6
+unfoldable pub checkOrder : List ℤ → List ℤ → List ℕ → List ℕ → Checked
+checkOrder xs ys delays js = andThen (checkSinks 512 xs ys delays) (checkJoins (length xs) js)
 
 -- "7: a lent buffer is shorter than what the answer fills in it": m nodes, and the rooms for U, V and wires
 abbrev pub checkRoom : ℕ → ℕ → ℕ → ℕ → Checked
@@ -43,8 +43,8 @@ treeAfter Fine t = Tree t
 treeAfter (Refused r) t = NoTree r
 
 -- "Building and writing check 1 to 7 in order"
-unfoldable pub answer : List ℤ → List ℤ → List ℕ → ℕ → ℕ → ℕ → Embedded
-answer xs ys js ru rv rw = treeAfter (andThen (checkOrder xs ys js) (checkRoom (2 * length xs - 1) ru rv rw)) (total (sinksAt xs ys) js)
+unfoldable pub answer : List ℤ → List ℤ → List ℕ → List ℕ → ℕ → ℕ → ℕ → Embedded
+answer xs ys delays js ru rv rw = treeAfter (andThen (checkOrder xs ys delays js) (checkRoom (2 * length xs - 1) ru rv rw)) (total (sinksAt xs ys delays) js)
 
 -- "A refusal changes no lent byte": what is written, from the front of a buffer
 abbrev pub written : {A : Type 0} → Embedded → List A → List A

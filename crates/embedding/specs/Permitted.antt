@@ -10,8 +10,8 @@ use Rattle.embedding.specs.declared.embed.Embedded.{Embedded}
 use Rattle.embedding.specs.Embedding.{answer, written, placesU, placesV, wires}
 
 -- the inputs, the three buffers before, the answer, and the three buffers after
-pub record Permitted (xs ys : List ℤ) (js : List ℕ) (us vs : List ℤ) (ws : List ℕ) (said : Embedded) (us′ vs′ : List ℤ) (ws′ : List ℕ) : Type 0 where
-  pub answers : said ≡ answer xs ys js (length us) (length vs) (length ws)
-  pub writes-u : us′ ≡ front (written said (placesU (sinksAt xs ys) js)) us
-  pub writes-v : vs′ ≡ front (written said (placesV (sinksAt xs ys) js)) vs
-  pub writes-w : ws′ ≡ front (written said (wires (sinksAt xs ys) js)) ws
+pub record Permitted (xs ys : List ℤ) (delays js : List ℕ) (us vs : List ℤ) (ws : List ℕ) (said : Embedded) (us′ vs′ : List ℤ) (ws′ : List ℕ) : Type 0 where
+  pub answers : said ≡ answer xs ys delays js (length us) (length vs) (length ws)
+  pub writes-u : us′ ≡ front (written said (placesU (sinksAt xs ys delays) js)) us
+  pub writes-v : vs′ ≡ front (written said (placesV (sinksAt xs ys delays) js)) vs
+  pub writes-w : ws′ ≡ front (written said (wires (sinksAt xs ys delays) js)) ws

@@ -5,6 +5,7 @@ use Prim.Native.Nat.{ℕ, _-_, _*_, _≤_, _<_}
 use lib.IntN.{ℤ, pos}
 use lib.ListN.{length, getD, set}
 use Rattle.plane.specs.Boxes.{sinkBox, diamOf, Fair}
+use Rattle.plane.specs.Sinks.{Placed}
 use Rattle.plane.specs.Measures.{lowered, raised}
 use Rattle.plane.specs.Spots.{rootOf, nearestOf}
 use Rattle.plane.specs.declared.segment.Spot.{Spot}
@@ -20,10 +21,14 @@ pub record Sized (n : ℕ) (bs ds ps : List ℕ) : Type 0 where
   pub sized : Diameters (2 * n - 1) bs ds
   pub rising : Rising n ps
 
+-- the sinks have places that the code's numbers hold
+abbrev pub AllPlaced : List ℤ → List ℤ → Type 0
+AllPlaced xs ys = (k : ℕ) → k < length xs → Placed xs ys k
+
 -- places that fit a signed number
 pub record Low (p : Spot) : Type 0 where
-  pub low-u : p .u .0 ≤ 140000000
-  pub low-v : p .v .0 ≤ 140000000
+  pub low-u : p .u .0 ≤ 184000000
+  pub low-v : p .v .0 ≤ 184000000
 
 -- the place that two buffers hold for node k
 abbrev pub spotAt : List ℤ → List ℤ → ℕ → Spot
@@ -69,6 +74,6 @@ pub record PutsDown (n : ℕ) (bs ps : List ℕ) (m : ℕ) (us vs us′ vs′ : 
 
 -- the places of the first m sinks are written: each is its own
 pub record PutsSinks (xs ys : List ℤ) (m : ℕ) (us vs us′ vs′ : List ℤ) : Type 0 where
-  pub own : (k : ℕ) → k < m → SpotHeld us′ vs′ k (rootOf (sinkBox (getD xs k (pos 0)) (getD ys k (pos 0))))
+  pub own : (k : ℕ) → k < m → SpotHeld us′ vs′ k (rootOf (sinkBox (getD xs k (pos 0)) (getD ys k (pos 0)) 0))
   pub kept-u : Kept m us us′
   pub kept-v : Kept m vs vs′

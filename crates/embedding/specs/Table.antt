@@ -24,5 +24,5 @@ pub record Puts (k : ℕ) (b : Box) (old new : List ℕ) : Type 0 where
   pub before : (i : ℕ) → i < k → boxAt new i ≡ boxAt old i
 
 -- the boxes of the first m sinks
-pub record Sinked (xs ys : List ℤ) (m : ℕ) (bs : List ℕ) : Type 0 where
-  pub covers : (k : ℕ) → k < m → Covers (sinksAt xs ys) (k ∷ []) (boxAt bs k)
+pub record Sinked (xs ys : List ℤ) (delays : List ℕ) (m : ℕ) (bs : List ℕ) : Type 0 where
+  pub covers : (k : ℕ) → k < m → Covers (sinksAt xs ys delays) (k ∷ []) (boxAt bs k)

@@ -4,11 +4,36 @@ ghost use Prim.Native.Nat.{_+_, _-_, _*_, _<_};
 ghost use lib.ListN.{length, set};
 ghost use Rattle.plane.specs.Sinks.{sinksAt};
 ghost use Rattle.embedding.specs.Sound.{Ordered, Sound};
-ghost use Rattle.embedding.specs.Arrays.{Parents, NodeRoom, Cleared, Up, PutsJoin, PutsJoins, AllNodes};
+ghost use Rattle.embedding.specs.Arrays.{Parents, NodeRoom, OwnRoom, PutsOwn, Up, PutsJoin, PutsJoins, AllNodes};
 ghost use Rattle.embedding.specs.Embedding.{total};
 use crate::joins;
 use crate::table;
 use plane::boxes;
+use plane::measure;
+
+// A sum that fits a length again.
+fn short(x: u64) -> u32
+    requires { ⌜ x < 4294967296 ⌝ }
+    ensures { λ r. ⌜ r ≡ x ⌝ }
+{
+    x as u32
+}
+
+// The own diameter of each sink, twice its delay, and the sum of them.
+fn put_own(delays: &[u32], ds: &mut [u32]) -> u64
+    requires { ⌜ OwnRoom (now delays) (now ds) ⌝ }
+    ensures { λ r. ⌜ PutsOwn (now (delays .entry)) (length (now (delays .entry))) r (now (ds .exit)) ⌝ }
+{
+    let mut sum: u64 = 0;
+    let mut i = 0;
+    while i < delays.len() {
+        let d = 2 * delays[i];
+        ds[i] = d;
+        sum += measure::wide(d);
+        i += 1;
+    }
+    sum
+}
 
 // Node m is the parent of nodes a and b.
 fn put_parent(ps: &mut [u16], a: usize, b: usize, m: usize)
@@ -37,37 +62,39 @@ fn put_join(js: &[u16], n: usize, i: usize, bs: &mut [u32], ds: &mut [u32], ps: 
 }
 
 // All joins, bottom-up, and the sum of their diameters.
-fn put_joins(js: &[u16], n: usize, bs: &mut [u32], ds: &mut [u32], ps: &mut [u16]) -> u32
+fn put_joins(js: &[u16], n: usize, bs: &mut [u32], ds: &mut [u32], ps: &mut [u16]) -> u64
     requires { ⌜ Ordered n (now js) × Up n (now js) 0 (now bs) (now ds) (now ps) ⌝ }
     ensures { λ r. ⌜ PutsJoins n (now (js .entry)) (n - 1) (now (bs .entry)) r (now (bs .exit)) (now (ds .exit)) (now (ps .exit)) ⌝ }
 {
     let last = n - 1;
-    let mut sum: u32 = 0;
+    let mut sum: u64 = 0;
     let mut i = 0;
     while i < last {
-        sum += put_join(js, n, i, bs, ds, ps);
+        sum += measure::wide(put_join(js, n, i, bs, ds, ps));
         i += 1;
     }
     sum
 }
 
-// All nodes, and the total: the sum of the diameters of all joins, and the root's once more.
+// All nodes, and the total: the sum of the diameters of all joins, and the root's once more, without the sinks' own.
 pub fn put_nodes(
     xs: &[i32],
     ys: &[i32],
+    delays: &[u32],
     js: &[u16],
     bs: &mut [u32],
     ds: &mut [u32],
     ps: &mut [u16],
 ) -> u32
-    requires { ⌜ Sound (now xs) (now ys) (now js) × NodeRoom (length (now xs)) (now bs) (now ds) (now ps) × Cleared (length (now xs)) (now ds) ⌝ }
-    ensures { λ r. ⌜ AllNodes (sinksAt (now (xs .entry)) (now (ys .entry))) (now (js .entry)) (now (bs .exit)) (now (ds .exit)) (now (ps .exit)) × (r ≡ total (sinksAt (now (xs .entry)) (now (ys .entry))) (now (js .entry))) ⌝ }
+    requires { ⌜ Sound (now xs) (now ys) (now delays) (now js) × NodeRoom (length (now xs)) (now bs) (now ds) (now ps) ⌝ }
+    ensures { λ r. ⌜ AllNodes (sinksAt (now (xs .entry)) (now (ys .entry)) (now (delays .entry))) (now (js .entry)) (now (bs .exit)) (now (ds .exit)) (now (ps .exit)) × (r ≡ total (sinksAt (now (xs .entry)) (now (ys .entry)) (now (delays .entry))) (now (js .entry))) ⌝ }
 {
     let n = xs.len();
-    table::put_sinks(xs, ys, bs);
+    table::put_sinks(xs, ys, delays, bs);
+    let own = put_own(delays, ds);
     let sum = put_joins(js, n, bs, ds, ps);
     let root = 2 * n - 2;
-    sum + ds[root]
+    short(sum + measure::wide(ds[root]) - own)
 }
 
 // The parent of each node but the root, from the pairs.

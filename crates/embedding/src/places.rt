@@ -2,8 +2,7 @@
 ghost use mathlib.Core.Path.{_≡_};
 ghost use Prim.Native.Nat.{_-_, _*_, _≤_};
 ghost use lib.ListN.{length};
-ghost use Rattle.embedding.specs.Places.{Sized, Low, spotAt, SpotHeld, Has, Placeable, PutsSpot, PutsDown, PutsSinks};
-ghost use Rattle.plane.specs.Sinks.{Ranged};
+ghost use Rattle.embedding.specs.Places.{Sized, AllPlaced, Low, spotAt, SpotHeld, Has, Placeable, PutsSpot, PutsDown, PutsSinks};
 ghost use Rattle.plane.specs.Spots.{rootOf, nearestOf};
 ghost use Rattle.embedding.specs.Table.{boxAt};
 use crate::joins;
@@ -66,14 +65,14 @@ pub fn join_places(bs: &[u32], ds: &[u32], ps: &[u16], n: usize, us: &mut [i32],
     }
 }
 
-// The places of the sinks, which are their own: no parent moves them.
+// The places of the sinks, which are their own: no parent moves them, and no delay does.
 pub fn sink_places(xs: &[i32], ys: &[i32], us: &mut [i32], vs: &mut [i32])
-    requires { ⌜ Ranged (now xs) (now ys) × (length (now xs) ≤ length (now us)) × (length (now xs) ≤ length (now vs)) ⌝ }
+    requires { ⌜ AllPlaced (now xs) (now ys) × (length (now xs) ≤ length (now us)) × (length (now xs) ≤ length (now vs)) ⌝ }
     ensures { λ _. ⌜ PutsSinks (now (xs .entry)) (now (ys .entry)) (length (now (xs .entry))) (now (us .entry)) (now (vs .entry)) (now (us .exit)) (now (vs .exit)) ⌝ }
 {
     let mut k = 0;
     while k < xs.len() {
-        let s = segment::root_spot(bounds::sink_at(xs, ys, k), 0);
+        let s = segment::root_spot(bounds::place_at(xs, ys, k), 0);
         put_spot(us, vs, k, s);
         k += 1;
     }

@@ -2,7 +2,7 @@
 ghost use mathlib.Core.Path.{_≡_};
 ghost use Prim.Native.Nat.{_*_, _≤_};
 ghost use lib.ListN.{length};
-ghost use Rattle.plane.specs.Sinks.{Ranged};
+ghost use Rattle.plane.specs.Sinks.{Fitting};
 ghost use Rattle.plane.specs.Boxes.{hullOf};
 ghost use Rattle.embedding.specs.Table.{boxAt, Boxed, Puts, Sinked};
 use plane::bounds;
@@ -44,13 +44,13 @@ pub fn put_box(bs: &mut [u32], k: usize, b: Box)
 }
 
 // The boxes of all sinks.
-pub fn put_sinks(xs: &[i32], ys: &[i32], bs: &mut [u32])
-    requires { ⌜ Ranged (now xs) (now ys) × (4 * length (now xs) ≤ length (now bs)) ⌝ }
-    ensures { λ _. ⌜ Sinked (now (xs .entry)) (now (ys .entry)) (length (now (xs .entry))) (now (bs .exit)) ⌝ }
+pub fn put_sinks(xs: &[i32], ys: &[i32], delays: &[u32], bs: &mut [u32])
+    requires { ⌜ Fitting (now xs) (now ys) (now delays) × (4 * length (now xs) ≤ length (now bs)) ⌝ }
+    ensures { λ _. ⌜ Sinked (now (xs .entry)) (now (ys .entry)) (now (delays .entry)) (length (now (xs .entry))) (now (bs .exit)) ⌝ }
 {
     let mut i = 0;
     while i < xs.len() {
-        put_box(bs, i, bounds::sink_at(xs, ys, i));
+        put_box(bs, i, bounds::sink_at(xs, ys, delays, i));
         i += 1;
     }
 }

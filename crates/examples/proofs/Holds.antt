@@ -7,7 +7,7 @@ use lib.ListN.{replicate, getD-replicate}
 use lib.Count.{ones, onesIn, trailingZeros}
 use Rattle.zero_skew.specs.Box.{greatest, least, diameter}
 use Rattle.zero_skew.specs.Order.{sinksOf}
-use Rattle.plane.specs.Sinks.{sinksAt, checkSinks}
+use Rattle.plane.specs.Sinks.{sinksAt, checkPlaces, checkSinks}
 use Rattle.embedding.specs.Joins.{checkJoins}
 use Rattle.embedding.specs.Nodes.{climb, node, parent}
 use Rattle.embedding.specs.Embedding.{checkOrder, answer}
@@ -32,11 +32,15 @@ use Rattle.plane.proofs.Checks.{accepted}
 use Rattle.search.specs.declared.search.Found.{Found}
 use Rattle.search.proofs.OnePlace.{one-place-found}
 use Rattle.examples.specs.Example.{Outcome, searched, says, outcome}
-use Rattle.examples.specs.Table.{computed, twelve, table, called, given}
+use Rattle.examples.specs.Table.{computed, delayed, twelve, table, called, given}
 
 computed-holds : map called computed ≡ map given computed
-unfolding computed called given outcome checkSinks checkJoins checkOrder answer climb node parent greatest least diameter sinksOf nearest.best nearest.joins nearest.order checkNearest rising keep sinksIn diam isPart splits stepsOf steps blanks tableAfter firstOr keptPart keptIn joinCount nodeIn pairsOf checkRooms checkSearch joinsFound foundBy big numberAt field records places firsts seconds sinkFile bodyAt fieldAt formFrom past checkSinkFile brackets digits decimal signed firstLine secondLine parentField nodeLine nodeLines treeText refusalLine program.joinsOf program.linesOf program.answerText program.textOf trailingZeros ones onesIn
+unfolding computed called given outcome checkPlaces checkSinks checkJoins checkOrder answer climb node parent greatest least diameter sinksOf nearest.best nearest.joins nearest.order checkNearest rising keep sinksIn diam isPart splits stepsOf steps blanks tableAfter firstOr keptPart keptIn joinCount nodeIn pairsOf checkRooms checkSearch joinsFound foundBy big numberAt field records places firsts seconds sinkFile bodyAt fieldAt formFrom past checkSinkFile brackets digits decimal signed firstLine secondLine parentField nodeLine nodeLines treeText refusalLine program.joinsOf program.linesOf program.answerText program.textOf trailingZeros ones onesIn
 computed-holds = refl
+
+delayed-holds : map called delayed ≡ map given delayed
+unfolding delayed called given outcome checkPlaces checkSinks checkJoins checkOrder answer climb node parent greatest least diameter sinksOf nearest.best nearest.joins nearest.order checkNearest rising keep sinksIn diam isPart splits stepsOf steps blanks tableAfter firstOr keptPart keptIn joinCount nodeIn pairsOf checkRooms checkSearch joinsFound foundBy trailingZeros ones onesIn
+delayed-holds = refl
 
 -- ---- twelve pins on one place
 abbrev xs : List ℤ
@@ -45,25 +49,31 @@ xs = replicate 12 (pos 3)
 abbrev ys : List ℤ
 ys = replicate 12 (negsuc 4)
 
-passed : checkSinks 12 xs ys ≡ Fine
-unfolding checkSinks
+abbrev none : List ℕ
+none = replicate 12 0
+
+passed : checkSinks 12 xs ys none ≡ Fine
+unfolding checkPlaces checkSinks
 passed = refl
 
-same : (i j : ℕ) → i < 12 → j < 12 → sinksAt xs ys .at i ≡ sinksAt xs ys .at j
+same : (i j : ℕ) → i < 12 → j < 12 → sinksAt xs ys none .at i ≡ sinksAt xs ys none .at j
 same i j hi hj = stands i hi ∙ sym (stands j hj)
   where
-    stands : (i : ℕ) → i < 12 → sinksAt xs ys .at i ≡ record { x = pos 3; y = negsuc 4 }
+    stands : (i : ℕ) → i < 12 → sinksAt xs ys none .at i ≡ record { x = pos 3; y = negsuc 4 }
     stands i h = λ k. record { x = getD-replicate 12 i (pos 3) (pos 0) h k; y = getD-replicate 12 i (negsuc 4) (pos 0) h k }
 
 twelve-holds : called twelve ≡ given twelve
-unfolding called given twelve outcome checkSearch checkSinks checkRooms
+unfolding called given twelve outcome checkSearch checkPlaces checkSinks checkRooms
 twelve-holds =
-    let a = accepted 12 xs ys passed in
-    ap (λ (f : Found). says (searched (foundAfter (checkSearch xs ys 4096 22 23 23 23) f))) (one-place-found xs ys (a .ranged) (a .some) (a .few) same 261625)
+    let a = accepted 12 xs ys none passed in
+    ap (λ (f : Found). says (searched (foundAfter (checkSearch xs ys none 4096 22 23 23 23) f))) (one-place-found xs ys none (a .ranged) (a .some) (a .few) same 0 (λ i h. getD-replicate {A = ℕ} 12 i 0 0 h) 261625)
 
 pub table-holds : map called table ≡ map given table
 unfolding table
 table-holds =
-    map-append called computed (twelve ∷ [])
-    ∙ ap₂ (λ (a : List Outcome) (b : Outcome). a ++ (b ∷ [])) computed-holds twelve-holds
-    ∙ sym (map-append given computed (twelve ∷ []))
+    map-append called computed (delayed ++ (twelve ∷ []))
+    ∙ ap₂ (λ (a b : List Outcome). a ++ b) computed-holds
+    (map-append called delayed (twelve ∷ [])
+    ∙ ap₂ (λ (a : List Outcome) (b : Outcome). a ++ (b ∷ [])) delayed-holds twelve-holds
+    ∙ sym (map-append given delayed (twelve ∷ [])))
+    ∙ sym (map-append given computed (delayed ++ (twelve ∷ [])))

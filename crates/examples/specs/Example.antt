@@ -16,14 +16,14 @@ use Rattle.search.specs.Rooms.{checkSearch}
 use Rattle.search.specs.Searching.{tableOf, joinsFound, found, foundAfter, ifTree}
 use Rattle.search.specs.declared.search.Searched.{Searched}
 
--- a call with the sinks' x and y (its buffers have room for whatever twelve sinks fill, or as much as is said), only what a search says, the sink file of some
+-- a call with the sinks' x, y and delays (its buffers have room for whatever twelve sinks fill, or as much as is said), only what a search says, the sink file of some
 -- sinks, the check of a file's form up to its last tag, or what the program prints for a file
 pub data Call : Type 0 where
-  embed : (xs ys : List ℤ) (js : List ℕ) (room : ℕ) → Call
-  join : (xs ys : List ℤ) (room : ℕ) → Call
-  search : (xs ys : List ℤ) (budget : ℕ) → Call
-  say : (xs ys : List ℤ) (budget : ℕ) → Call
-  check : (limit : ℕ) (xs ys : List ℤ) → Call
+  embed : (xs ys : List ℤ) (delays js : List ℕ) (room : ℕ) → Call
+  join : (xs ys : List ℤ) (delays : List ℕ) (room : ℕ) → Call
+  search : (xs ys : List ℤ) (delays : List ℕ) (budget : ℕ) → Call
+  say : (xs ys : List ℤ) (delays : List ℕ) (budget : ℕ) → Call
+  check : (limit : ℕ) (xs ys : List ℤ) (delays : List ℕ) → Call
   steps : (n : ℕ) → Call
   file : (xs ys : List ℤ) → Call
   form : (last : ℕ) (bytes : List ℕ) → Call
@@ -46,43 +46,43 @@ pub record Outcome : Type 0 where
   pub vs : List ℤ
   pub ws : List ℕ
 
-abbrev pub searchSays : List ℤ → List ℤ → ℕ → Searched
-searchSays xs ys budget = foundAfter (checkSearch xs ys 4096 22 23 23 23) (found (sinksAt xs ys) budget)
+abbrev pub searchSays : List ℤ → List ℤ → List ℕ → ℕ → Searched
+searchSays xs ys delays budget = foundAfter (checkSearch xs ys delays 4096 22 23 23 23) (found (sinksAt xs ys delays) budget)
 
 abbrev pub says : Said → Outcome
 says a = record { said = a; table = []; js = []; us = []; vs = []; ws = [] }
 
 -- what the definitions say of a call
 unfoldable pub outcome : Call → Outcome
-outcome (embed xs ys js room) =
+outcome (embed xs ys delays js room) =
     record {
-      said = embedded (answer xs ys js room room room);
+      said = embedded (answer xs ys delays js room room room);
       table = [];
       js = [];
-      us = written (answer xs ys js room room room) (placesU (sinksAt xs ys) js);
-      vs = written (answer xs ys js room room room) (placesV (sinksAt xs ys) js);
-      ws = written (answer xs ys js room room room) (wires (sinksAt xs ys) js);
+      us = written (answer xs ys delays js room room room) (placesU (sinksAt xs ys delays) js);
+      vs = written (answer xs ys delays js room room room) (placesV (sinksAt xs ys delays) js);
+      ws = written (answer xs ys delays js room room room) (wires (sinksAt xs ys delays) js);
     }
-outcome (join xs ys room) =
+outcome (join xs ys delays room) =
     record {
-      said = joined (orderAfter (checkNearest xs ys room));
+      said = joined (orderAfter (checkNearest xs ys delays room));
       table = [];
-      js = ifOrder (orderAfter (checkNearest xs ys room)) (orderAt xs ys);
+      js = ifOrder (orderAfter (checkNearest xs ys delays room)) (orderAt xs ys delays);
       us = [];
       vs = [];
       ws = [];
     }
-outcome (search xs ys budget) =
+outcome (search xs ys delays budget) =
     record {
-      said = searched (searchSays xs ys budget);
-      table = ifTree (searchSays xs ys budget) (tableOf (sinksAt xs ys) budget);
-      js = ifTree (searchSays xs ys budget) (joinsFound (sinksAt xs ys) budget);
-      us = ifTree (searchSays xs ys budget) (placesU (sinksAt xs ys) (joinsFound (sinksAt xs ys) budget));
-      vs = ifTree (searchSays xs ys budget) (placesV (sinksAt xs ys) (joinsFound (sinksAt xs ys) budget));
-      ws = ifTree (searchSays xs ys budget) (wires (sinksAt xs ys) (joinsFound (sinksAt xs ys) budget));
+      said = searched (searchSays xs ys delays budget);
+      table = ifTree (searchSays xs ys delays budget) (tableOf (sinksAt xs ys delays) budget);
+      js = ifTree (searchSays xs ys delays budget) (joinsFound (sinksAt xs ys delays) budget);
+      us = ifTree (searchSays xs ys delays budget) (placesU (sinksAt xs ys delays) (joinsFound (sinksAt xs ys delays) budget));
+      vs = ifTree (searchSays xs ys delays budget) (placesV (sinksAt xs ys delays) (joinsFound (sinksAt xs ys delays) budget));
+      ws = ifTree (searchSays xs ys delays budget) (wires (sinksAt xs ys delays) (joinsFound (sinksAt xs ys delays) budget));
     }
-outcome (say xs ys budget) = says (searched (searchSays xs ys budget))
-outcome (check limit xs ys) = says (checked (checkSinks limit xs ys))
+outcome (say xs ys delays budget) = says (searched (searchSays xs ys delays budget))
+outcome (check limit xs ys delays) = says (checked (checkSinks limit xs ys delays))
 outcome (steps n) = says (counted (stepCount n))
 outcome (file xs ys) = says (bytes (sinkFile xs ys))
 outcome (form last f) = says (checked (house.form last f))

@@ -1,9 +1,9 @@
--- Document 01, "Table of checked examples": P1 to P12 as one table under one statement, `table-holds` (proofs/Holds.antt). Further rows show the ties of joining by least diameter, pins that share a place, refusals 1 and 6 to 8, case D as a file and as text.
+-- Document 01, "Table of checked examples": P1 to P12 as one table under one statement, `table-holds` (proofs/Holds.antt). Further rows show the ties of joining by least diameter, pins that share a place, refusals 1, 6 to 8 and 15, pins with their own delay, case D as a file and as text.
 use mathlib.Core.Bool.{true, false}
 use mathlib.Core.List.{List, [], _∷_, _++_}
 use lib.IntN.{pos, negsuc}
 use lib.ListN.{replicate}
-use Rattle.plane.specs.declared.refusal.Refusal.the-variants.{Lists, NoSink, TooMany, Outside, Joins, Room, Form}
+use Rattle.plane.specs.declared.refusal.Refusal.the-variants.{Lists, NoSink, TooMany, Outside, Joins, Room, Form, Late}
 use Rattle.plane.specs.declared.refusal.Checked.the-variants.{Fine, Refused}
 use Rattle.embedding.specs.declared.embed.Embedded.the-variants.{Tree, NoTree}
 use Rattle.nearest.specs.declared.order.Joined.the-variants.{Order}
@@ -20,87 +20,87 @@ unfoldable pub computed : List Row
 computed =
     -- P1: "no sinks: 2"
     record {
-      call = embed [] [] [] 7;
+      call = embed [] [] [] [] 7;
       gives = record { said = embedded (NoTree NoSink); table = []; js = []; us = []; vs = []; ws = [] };
     }
     -- and for the search
     ∷ record {
-      call = search [] [] 0;
+      call = search [] [] [] 0;
       gives = record { said = searched (found.NoTree NoSink); table = []; js = []; us = []; vs = []; ws = [] };
     }
     -- P2: "one sink at (3,-5): place U -4, V 16, total 0, proven at budget 0"
     ∷ record {
-      call = search (pos 3 ∷ []) (negsuc 4 ∷ []) 0;
+      call = search (pos 3 ∷ []) (negsuc 4 ∷ []) (0 ∷ []) 0;
       gives = record { said = searched (found.Tree (record { total = 0; steps = 0; proven = true })); table = 0 ∷ 0 ∷ []; js = []; us = negsuc 3 ∷ []; vs = pos 16 ∷ []; ws = 0 ∷ [] };
     }
     -- the same sink, embedded
     ∷ record {
-      call = embed (pos 3 ∷ []) (negsuc 4 ∷ []) [] 7;
+      call = embed (pos 3 ∷ []) (negsuc 4 ∷ []) (0 ∷ []) [] 7;
       gives = record { said = embedded (Tree 0); table = []; js = []; us = negsuc 3 ∷ []; vs = pos 16 ∷ []; ws = 0 ∷ [] };
     }
     -- P3: "(0,0) (4,0): root 4, 4; wires 4, 4; total 8"
     ∷ record {
-      call = embed (pos 0 ∷ pos 4 ∷ []) (pos 0 ∷ pos 0 ∷ []) (0 ∷ 1 ∷ []) 7;
+      call = embed (pos 0 ∷ pos 4 ∷ []) (pos 0 ∷ pos 0 ∷ []) (0 ∷ 0 ∷ []) (0 ∷ 1 ∷ []) 7;
       gives = record { said = embedded (Tree 8); table = []; js = []; us = pos 0 ∷ pos 8 ∷ pos 4 ∷ []; vs = pos 0 ∷ pos 8 ∷ pos 4 ∷ []; ws = 4 ∷ 4 ∷ 0 ∷ [] };
     }
     -- P4: "(0,0) (3,2): d 5, root U 5, V -3 (plane 0.5, 2), total 10"
     ∷ record {
-      call = embed (pos 0 ∷ pos 3 ∷ []) (pos 0 ∷ pos 2 ∷ []) (0 ∷ 1 ∷ []) 7;
+      call = embed (pos 0 ∷ pos 3 ∷ []) (pos 0 ∷ pos 2 ∷ []) (0 ∷ 0 ∷ []) (0 ∷ 1 ∷ []) 7;
       gives = record { said = embedded (Tree 10); table = []; js = []; us = pos 0 ∷ pos 10 ∷ pos 5 ∷ []; vs = pos 0 ∷ pos 2 ∷ negsuc 2 ∷ []; ws = 5 ∷ 5 ∷ 0 ∷ [] };
     }
     -- P5: "(0,0) (2,0) (10,0), pairs (0,1) (3,2): wires 2, 2, 10, 8; total 22"
     ∷ record {
-      call = embed (pos 0 ∷ pos 2 ∷ pos 10 ∷ []) (pos 0 ∷ pos 0 ∷ pos 0 ∷ []) (0 ∷ 1 ∷ 3 ∷ 2 ∷ []) 7;
+      call = embed (pos 0 ∷ pos 2 ∷ pos 10 ∷ []) (pos 0 ∷ pos 0 ∷ pos 0 ∷ []) (0 ∷ 0 ∷ 0 ∷ []) (0 ∷ 1 ∷ 3 ∷ 2 ∷ []) 7;
       gives = record { said = embedded (Tree 22); table = []; js = []; us = pos 0 ∷ pos 4 ∷ pos 20 ∷ pos 2 ∷ pos 10 ∷ []; vs = pos 0 ∷ pos 4 ∷ pos 20 ∷ pos 2 ∷ pos 10 ∷ []; ws = 2 ∷ 2 ∷ 10 ∷ 8 ∷ 0 ∷ [] };
     }
     -- P6: "same sinks, pairs (0,2) (3,1): total 30; sink 1 snakes 4"
     ∷ record {
-      call = embed (pos 0 ∷ pos 2 ∷ pos 10 ∷ []) (pos 0 ∷ pos 0 ∷ pos 0 ∷ []) (0 ∷ 2 ∷ 3 ∷ 1 ∷ []) 7;
+      call = embed (pos 0 ∷ pos 2 ∷ pos 10 ∷ []) (pos 0 ∷ pos 0 ∷ pos 0 ∷ []) (0 ∷ 0 ∷ 0 ∷ []) (0 ∷ 2 ∷ 3 ∷ 1 ∷ []) 7;
       gives = record { said = embedded (Tree 30); table = []; js = []; us = pos 0 ∷ pos 4 ∷ pos 20 ∷ pos 10 ∷ pos 10 ∷ []; vs = pos 0 ∷ pos 4 ∷ pos 20 ∷ pos 10 ∷ pos 10 ∷ []; ws = 10 ∷ 10 ∷ 10 ∷ 0 ∷ 0 ∷ [] };
     }
     -- P7: "same sinks, budget 4: subset 7 holds 18"
     ∷ record {
-      call = search (pos 0 ∷ pos 2 ∷ pos 10 ∷ []) (pos 0 ∷ pos 0 ∷ pos 0 ∷ []) 4;
+      call = search (pos 0 ∷ pos 2 ∷ pos 10 ∷ []) (pos 0 ∷ pos 0 ∷ pos 0 ∷ []) (0 ∷ 0 ∷ 0 ∷ []) 4;
       gives = record { said = searched (found.Tree (record { total = 22; steps = 4; proven = false })); table = 0 ∷ 0 ∷ 0 ∷ 2 ∷ 0 ∷ 10 ∷ 8 ∷ 18 ∷ []; js = 0 ∷ 1 ∷ 2 ∷ 3 ∷ []; us = pos 0 ∷ pos 4 ∷ pos 20 ∷ pos 2 ∷ pos 10 ∷ []; vs = pos 0 ∷ pos 4 ∷ pos 20 ∷ pos 2 ∷ pos 10 ∷ []; ws = 2 ∷ 2 ∷ 10 ∷ 8 ∷ 0 ∷ [] };
     }
     -- P8: "budget 5: 12, unproven"
     ∷ record {
-      call = search (pos 0 ∷ pos 2 ∷ pos 10 ∷ []) (pos 0 ∷ pos 0 ∷ pos 0 ∷ []) 5;
+      call = search (pos 0 ∷ pos 2 ∷ pos 10 ∷ []) (pos 0 ∷ pos 0 ∷ pos 0 ∷ []) (0 ∷ 0 ∷ 0 ∷ []) 5;
       gives = record { said = searched (found.Tree (record { total = 22; steps = 5; proven = false })); table = 0 ∷ 0 ∷ 0 ∷ 2 ∷ 0 ∷ 10 ∷ 8 ∷ 12 ∷ []; js = 0 ∷ 1 ∷ 2 ∷ 3 ∷ []; us = pos 0 ∷ pos 4 ∷ pos 20 ∷ pos 2 ∷ pos 10 ∷ []; vs = pos 0 ∷ pos 4 ∷ pos 20 ∷ pos 2 ∷ pos 10 ∷ []; ws = 2 ∷ 2 ∷ 10 ∷ 8 ∷ 0 ∷ [] };
     }
     -- P9: "budget 6: proven, total 22"
     ∷ record {
-      call = search (pos 0 ∷ pos 2 ∷ pos 10 ∷ []) (pos 0 ∷ pos 0 ∷ pos 0 ∷ []) 6;
+      call = search (pos 0 ∷ pos 2 ∷ pos 10 ∷ []) (pos 0 ∷ pos 0 ∷ pos 0 ∷ []) (0 ∷ 0 ∷ 0 ∷ []) 6;
       gives = record { said = searched (found.Tree (record { total = 22; steps = 6; proven = true })); table = 0 ∷ 0 ∷ 0 ∷ 2 ∷ 0 ∷ 10 ∷ 8 ∷ 12 ∷ []; js = 0 ∷ 1 ∷ 3 ∷ 2 ∷ []; us = pos 0 ∷ pos 4 ∷ pos 20 ∷ pos 2 ∷ pos 10 ∷ []; vs = pos 0 ∷ pos 4 ∷ pos 20 ∷ pos 2 ∷ pos 10 ∷ []; ws = 2 ∷ 2 ∷ 10 ∷ 8 ∷ 0 ∷ [] };
     }
     -- P10: "case D, budget 24: pairs (1,2) (0,4) (3,5), total 32, unproven"
     ∷ record {
-      call = search (pos 0 ∷ pos 4 ∷ pos 7 ∷ pos 11 ∷ []) (pos 0 ∷ pos 0 ∷ pos 0 ∷ pos 0 ∷ []) 24;
+      call = search (pos 0 ∷ pos 4 ∷ pos 7 ∷ pos 11 ∷ []) (pos 0 ∷ pos 0 ∷ pos 0 ∷ pos 0 ∷ []) (0 ∷ 0 ∷ 0 ∷ 0 ∷ []) 24;
       gives = record { said = searched (found.Tree (record { total = 32; steps = 24; proven = false })); table = 0 ∷ 0 ∷ 0 ∷ 4 ∷ 0 ∷ 7 ∷ 3 ∷ 10 ∷ 0 ∷ 11 ∷ 7 ∷ 15 ∷ 4 ∷ 15 ∷ 10 ∷ 19 ∷ []; js = 1 ∷ 2 ∷ 0 ∷ 4 ∷ 3 ∷ 5 ∷ []; us = pos 0 ∷ pos 8 ∷ pos 14 ∷ pos 22 ∷ pos 11 ∷ pos 7 ∷ pos 11 ∷ []; vs = pos 0 ∷ pos 8 ∷ pos 14 ∷ pos 22 ∷ pos 11 ∷ pos 7 ∷ pos 11 ∷ []; ws = 7 ∷ 3 ∷ 3 ∷ 11 ∷ 4 ∷ 4 ∷ 0 ∷ [] };
     }
     -- "budget 25: total 30"
     ∷ record {
-      call = search (pos 0 ∷ pos 4 ∷ pos 7 ∷ pos 11 ∷ []) (pos 0 ∷ pos 0 ∷ pos 0 ∷ pos 0 ∷ []) 25;
+      call = search (pos 0 ∷ pos 4 ∷ pos 7 ∷ pos 11 ∷ []) (pos 0 ∷ pos 0 ∷ pos 0 ∷ pos 0 ∷ []) (0 ∷ 0 ∷ 0 ∷ 0 ∷ []) 25;
       gives = record { said = searched (found.Tree (record { total = 30; steps = 25; proven = true })); table = 0 ∷ 0 ∷ 0 ∷ 4 ∷ 0 ∷ 7 ∷ 3 ∷ 10 ∷ 0 ∷ 11 ∷ 7 ∷ 15 ∷ 4 ∷ 15 ∷ 10 ∷ 19 ∷ []; js = 0 ∷ 1 ∷ 2 ∷ 3 ∷ 4 ∷ 5 ∷ []; us = pos 0 ∷ pos 8 ∷ pos 14 ∷ pos 22 ∷ pos 4 ∷ pos 18 ∷ pos 11 ∷ []; vs = pos 0 ∷ pos 8 ∷ pos 14 ∷ pos 22 ∷ pos 4 ∷ pos 18 ∷ pos 11 ∷ []; ws = 4 ∷ 4 ∷ 4 ∷ 4 ∷ 7 ∷ 7 ∷ 0 ∷ [] };
     }
     -- P11: "x = 1,000,000 accepted, 1,000,001 refused 4"
     ∷ record {
-      call = check 512 (pos 1000000 ∷ []) (pos 0 ∷ []);
+      call = check 512 (pos 1000000 ∷ []) (pos 0 ∷ []) (0 ∷ []);
       gives = record { said = checked Fine; table = []; js = []; us = []; vs = []; ws = [] };
     }
     -- at place 0, the lowest such sink
     ∷ record {
-      call = check 512 (pos 1000001 ∷ []) (pos 0 ∷ []);
+      call = check 512 (pos 1000001 ∷ []) (pos 0 ∷ []) (0 ∷ []);
       gives = record { said = checked (Refused (Outside 0)); table = []; js = []; us = []; vs = []; ws = [] };
     }
     -- P12: "12 sinks accepted for the search"
     ∷ record {
-      call = check 12 (pos 0 ∷ pos 1 ∷ pos 2 ∷ pos 3 ∷ pos 4 ∷ pos 5 ∷ pos 6 ∷ pos 7 ∷ pos 8 ∷ pos 9 ∷ pos 10 ∷ pos 11 ∷ []) (pos 0 ∷ pos 0 ∷ pos 0 ∷ pos 0 ∷ pos 0 ∷ pos 0 ∷ pos 0 ∷ pos 0 ∷ pos 0 ∷ pos 0 ∷ pos 0 ∷ pos 0 ∷ []);
+      call = check 12 (pos 0 ∷ pos 1 ∷ pos 2 ∷ pos 3 ∷ pos 4 ∷ pos 5 ∷ pos 6 ∷ pos 7 ∷ pos 8 ∷ pos 9 ∷ pos 10 ∷ pos 11 ∷ []) (pos 0 ∷ pos 0 ∷ pos 0 ∷ pos 0 ∷ pos 0 ∷ pos 0 ∷ pos 0 ∷ pos 0 ∷ pos 0 ∷ pos 0 ∷ pos 0 ∷ pos 0 ∷ []) (0 ∷ 0 ∷ 0 ∷ 0 ∷ 0 ∷ 0 ∷ 0 ∷ 0 ∷ 0 ∷ 0 ∷ 0 ∷ 0 ∷ []);
       gives = record { said = checked Fine; table = []; js = []; us = []; vs = []; ws = [] };
     }
     -- "13 refused 3"
     ∷ record {
-      call = check 12 (pos 0 ∷ pos 1 ∷ pos 2 ∷ pos 3 ∷ pos 4 ∷ pos 5 ∷ pos 6 ∷ pos 7 ∷ pos 8 ∷ pos 9 ∷ pos 10 ∷ pos 11 ∷ pos 12 ∷ []) (pos 0 ∷ pos 0 ∷ pos 0 ∷ pos 0 ∷ pos 0 ∷ pos 0 ∷ pos 0 ∷ pos 0 ∷ pos 0 ∷ pos 0 ∷ pos 0 ∷ pos 0 ∷ pos 0 ∷ []);
+      call = check 12 (pos 0 ∷ pos 1 ∷ pos 2 ∷ pos 3 ∷ pos 4 ∷ pos 5 ∷ pos 6 ∷ pos 7 ∷ pos 8 ∷ pos 9 ∷ pos 10 ∷ pos 11 ∷ pos 12 ∷ []) (pos 0 ∷ pos 0 ∷ pos 0 ∷ pos 0 ∷ pos 0 ∷ pos 0 ∷ pos 0 ∷ pos 0 ∷ pos 0 ∷ pos 0 ∷ pos 0 ∷ pos 0 ∷ pos 0 ∷ []) (0 ∷ 0 ∷ 0 ∷ 0 ∷ 0 ∷ 0 ∷ 0 ∷ 0 ∷ 0 ∷ 0 ∷ 0 ∷ 0 ∷ 0 ∷ []);
       gives = record { said = checked (Refused TooMany); table = []; js = []; us = []; vs = []; ws = [] };
     }
     -- "F(12) = 261,625"
@@ -110,102 +110,102 @@ computed =
     }
     -- one sink is joined to nothing
     ∷ record {
-      call = join (pos 3 ∷ []) (negsuc 4 ∷ []) 6;
+      call = join (pos 3 ∷ []) (negsuc 4 ∷ []) (0 ∷ []) 6;
       gives = record { said = joined Order; table = []; js = []; us = []; vs = []; ws = [] };
     }
     -- the nearest two first
     ∷ record {
-      call = join (pos 0 ∷ pos 10 ∷ pos 2 ∷ []) (pos 0 ∷ pos 0 ∷ pos 0 ∷ []) 6;
+      call = join (pos 0 ∷ pos 10 ∷ pos 2 ∷ []) (pos 0 ∷ pos 0 ∷ pos 0 ∷ []) (0 ∷ 0 ∷ 0 ∷ []) 6;
       gives = record { said = joined Order; table = []; js = 0 ∷ 2 ∷ 1 ∷ 3 ∷ []; us = []; vs = []; ws = [] };
     }
     -- of equal pairs the lower first number
     ∷ record {
-      call = join (pos 0 ∷ pos 1 ∷ pos 2 ∷ pos 3 ∷ []) (pos 0 ∷ pos 0 ∷ pos 0 ∷ pos 0 ∷ []) 6;
+      call = join (pos 0 ∷ pos 1 ∷ pos 2 ∷ pos 3 ∷ []) (pos 0 ∷ pos 0 ∷ pos 0 ∷ pos 0 ∷ []) (0 ∷ 0 ∷ 0 ∷ 0 ∷ []) 6;
       gives = record { said = joined Order; table = []; js = 0 ∷ 1 ∷ 2 ∷ 3 ∷ 4 ∷ 5 ∷ []; us = []; vs = []; ws = [] };
     }
     -- then the lower second
     ∷ record {
-      call = join (pos 0 ∷ pos 2 ∷ pos 0 ∷ []) (pos 0 ∷ pos 0 ∷ pos 2 ∷ []) 6;
+      call = join (pos 0 ∷ pos 2 ∷ pos 0 ∷ []) (pos 0 ∷ pos 0 ∷ pos 2 ∷ []) (0 ∷ 0 ∷ 0 ∷ []) 6;
       gives = record { said = joined Order; table = []; js = 0 ∷ 1 ∷ 2 ∷ 3 ∷ []; us = []; vs = []; ws = [] };
     }
     -- the least union, though two segments are nearer to each other (000)
     ∷ record {
-      call = join (pos 0 ∷ pos 10 ∷ pos 22 ∷ pos 42 ∷ []) (pos 0 ∷ pos 0 ∷ pos 0 ∷ pos 0 ∷ []) 6;
+      call = join (pos 0 ∷ pos 10 ∷ pos 22 ∷ pos 42 ∷ []) (pos 0 ∷ pos 0 ∷ pos 0 ∷ pos 0 ∷ []) (0 ∷ 0 ∷ 0 ∷ 0 ∷ []) 6;
       gives = record { said = joined Order; table = []; js = 0 ∷ 1 ∷ 2 ∷ 3 ∷ 4 ∷ 5 ∷ []; us = []; vs = []; ws = [] };
     }
     -- case D
     ∷ record {
-      call = join (pos 0 ∷ pos 4 ∷ pos 7 ∷ pos 11 ∷ []) (pos 0 ∷ pos 0 ∷ pos 0 ∷ pos 0 ∷ []) 6;
+      call = join (pos 0 ∷ pos 4 ∷ pos 7 ∷ pos 11 ∷ []) (pos 0 ∷ pos 0 ∷ pos 0 ∷ pos 0 ∷ []) (0 ∷ 0 ∷ 0 ∷ 0 ∷ []) 6;
       gives = record { said = joined Order; table = []; js = 1 ∷ 2 ∷ 0 ∷ 4 ∷ 3 ∷ 5 ∷ []; us = []; vs = []; ws = [] };
     }
     -- 1: lists of unlike length
     ∷ record {
-      call = embed (pos 0 ∷ []) [] [] 7;
+      call = embed (pos 0 ∷ []) [] (0 ∷ []) [] 7;
       gives = record { said = embedded (NoTree Lists); table = []; js = []; us = []; vs = []; ws = [] };
     }
     -- two pins on one place: no wire, proven
     ∷ record {
-      call = search (pos 3 ∷ pos 3 ∷ []) (negsuc 4 ∷ negsuc 4 ∷ []) 1;
+      call = search (pos 3 ∷ pos 3 ∷ []) (negsuc 4 ∷ negsuc 4 ∷ []) (0 ∷ 0 ∷ []) 1;
       gives = record { said = searched (found.Tree (record { total = 0; steps = 1; proven = true })); table = 0 ∷ 0 ∷ 0 ∷ 0 ∷ []; js = 0 ∷ 1 ∷ []; us = negsuc 3 ∷ negsuc 3 ∷ negsuc 3 ∷ []; vs = pos 16 ∷ pos 16 ∷ pos 16 ∷ []; ws = 0 ∷ 0 ∷ 0 ∷ [] };
     }
     -- and below F(2) the same tree, unproven
     ∷ record {
-      call = search (pos 3 ∷ pos 3 ∷ []) (negsuc 4 ∷ negsuc 4 ∷ []) 0;
+      call = search (pos 3 ∷ pos 3 ∷ []) (negsuc 4 ∷ negsuc 4 ∷ []) (0 ∷ 0 ∷ []) 0;
       gives = record { said = searched (found.Tree (record { total = 0; steps = 0; proven = false })); table = 0 ∷ 0 ∷ 0 ∷ 4294967295 ∷ []; js = 0 ∷ 1 ∷ []; us = negsuc 3 ∷ negsuc 3 ∷ negsuc 3 ∷ []; vs = pos 16 ∷ pos 16 ∷ pos 16 ∷ []; ws = 0 ∷ 0 ∷ 0 ∷ [] };
     }
     -- four pins on two places: those on one place are joined first, without wire
     ∷ record {
-      call = search (pos 0 ∷ pos 10 ∷ pos 0 ∷ pos 10 ∷ []) (pos 0 ∷ pos 0 ∷ pos 0 ∷ pos 0 ∷ []) 25;
+      call = search (pos 0 ∷ pos 10 ∷ pos 0 ∷ pos 10 ∷ []) (pos 0 ∷ pos 0 ∷ pos 0 ∷ pos 0 ∷ []) (0 ∷ 0 ∷ 0 ∷ 0 ∷ []) 25;
       gives = record { said = searched (found.Tree (record { total = 20; steps = 25; proven = true })); table = 0 ∷ 0 ∷ 0 ∷ 10 ∷ 0 ∷ 0 ∷ 10 ∷ 10 ∷ 0 ∷ 10 ∷ 0 ∷ 10 ∷ 10 ∷ 10 ∷ 10 ∷ 10 ∷ []; js = 0 ∷ 2 ∷ 1 ∷ 3 ∷ 4 ∷ 5 ∷ []; us = pos 0 ∷ pos 20 ∷ pos 0 ∷ pos 20 ∷ pos 0 ∷ pos 20 ∷ pos 10 ∷ []; vs = pos 0 ∷ pos 20 ∷ pos 0 ∷ pos 20 ∷ pos 0 ∷ pos 20 ∷ pos 10 ∷ []; ws = 0 ∷ 0 ∷ 0 ∷ 0 ∷ 10 ∷ 10 ∷ 0 ∷ [] };
     }
     -- by least diameter too: 0 is the least
     ∷ record {
-      call = join (pos 0 ∷ pos 10 ∷ pos 0 ∷ pos 10 ∷ []) (pos 0 ∷ pos 0 ∷ pos 0 ∷ pos 0 ∷ []) 6;
+      call = join (pos 0 ∷ pos 10 ∷ pos 0 ∷ pos 10 ∷ []) (pos 0 ∷ pos 0 ∷ pos 0 ∷ pos 0 ∷ []) (0 ∷ 0 ∷ 0 ∷ 0 ∷ []) 6;
       gives = record { said = joined Order; table = []; js = 0 ∷ 2 ∷ 1 ∷ 3 ∷ 4 ∷ 5 ∷ []; us = []; vs = []; ws = [] };
     }
     -- five pins on one place: the lower first number, then the lower second
     ∷ record {
-      call = join (pos 8 ∷ pos 8 ∷ pos 8 ∷ pos 8 ∷ pos 8 ∷ []) (pos 3 ∷ pos 3 ∷ pos 3 ∷ pos 3 ∷ pos 3 ∷ []) 8;
+      call = join (pos 8 ∷ pos 8 ∷ pos 8 ∷ pos 8 ∷ pos 8 ∷ []) (pos 3 ∷ pos 3 ∷ pos 3 ∷ pos 3 ∷ pos 3 ∷ []) (0 ∷ 0 ∷ 0 ∷ 0 ∷ 0 ∷ []) 8;
       gives = record { said = joined Order; table = []; js = 0 ∷ 1 ∷ 2 ∷ 3 ∷ 4 ∷ 5 ∷ 6 ∷ 7 ∷ []; us = []; vs = []; ws = [] };
     }
     -- given another order, the second pin on a place has a wire of its own
     ∷ record {
-      call = embed (pos 0 ∷ pos 4 ∷ pos 0 ∷ []) (pos 0 ∷ pos 0 ∷ pos 0 ∷ []) (0 ∷ 1 ∷ 3 ∷ 2 ∷ []) 7;
+      call = embed (pos 0 ∷ pos 4 ∷ pos 0 ∷ []) (pos 0 ∷ pos 0 ∷ pos 0 ∷ []) (0 ∷ 0 ∷ 0 ∷ []) (0 ∷ 1 ∷ 3 ∷ 2 ∷ []) 7;
       gives = record { said = embedded (Tree 12); table = []; js = []; us = pos 0 ∷ pos 8 ∷ pos 0 ∷ pos 4 ∷ pos 4 ∷ []; vs = pos 0 ∷ pos 8 ∷ pos 0 ∷ pos 4 ∷ pos 4 ∷ []; ws = 4 ∷ 4 ∷ 4 ∷ 0 ∷ 0 ∷ [] };
     }
     -- 6: half a pair
     ∷ record {
-      call = embed (pos 0 ∷ pos 4 ∷ []) (pos 0 ∷ pos 0 ∷ []) (0 ∷ 1 ∷ 0 ∷ []) 7;
+      call = embed (pos 0 ∷ pos 4 ∷ []) (pos 0 ∷ pos 0 ∷ []) (0 ∷ 0 ∷ []) (0 ∷ 1 ∷ 0 ∷ []) 7;
       gives = record { said = embedded (NoTree (Joins 1)); table = []; js = []; us = []; vs = []; ws = [] };
     }
     -- 6: too few pairs
     ∷ record {
-      call = embed (pos 0 ∷ pos 2 ∷ pos 10 ∷ []) (pos 0 ∷ pos 0 ∷ pos 0 ∷ []) (0 ∷ 1 ∷ []) 7;
+      call = embed (pos 0 ∷ pos 2 ∷ pos 10 ∷ []) (pos 0 ∷ pos 0 ∷ pos 0 ∷ []) (0 ∷ 0 ∷ 0 ∷ []) (0 ∷ 1 ∷ []) 7;
       gives = record { said = embedded (NoTree (Joins 1)); table = []; js = []; us = []; vs = []; ws = [] };
     }
     -- 6: too many pairs
     ∷ record {
-      call = embed (pos 0 ∷ pos 4 ∷ []) (pos 0 ∷ pos 0 ∷ []) (0 ∷ 1 ∷ 0 ∷ 1 ∷ []) 7;
+      call = embed (pos 0 ∷ pos 4 ∷ []) (pos 0 ∷ pos 0 ∷ []) (0 ∷ 0 ∷ []) (0 ∷ 1 ∷ 0 ∷ 1 ∷ []) 7;
       gives = record { said = embedded (NoTree (Joins 1)); table = []; js = []; us = []; vs = []; ws = [] };
     }
     -- 6: a node named again
     ∷ record {
-      call = embed (pos 0 ∷ pos 2 ∷ pos 10 ∷ []) (pos 0 ∷ pos 0 ∷ pos 0 ∷ []) (0 ∷ 1 ∷ 0 ∷ 2 ∷ []) 7;
+      call = embed (pos 0 ∷ pos 2 ∷ pos 10 ∷ []) (pos 0 ∷ pos 0 ∷ pos 0 ∷ []) (0 ∷ 0 ∷ 0 ∷ []) (0 ∷ 1 ∷ 0 ∷ 2 ∷ []) 7;
       gives = record { said = embedded (NoTree (Joins 1)); table = []; js = []; us = []; vs = []; ws = [] };
     }
     -- 6: a node that is not lower
     ∷ record {
-      call = embed (pos 0 ∷ pos 2 ∷ pos 10 ∷ []) (pos 0 ∷ pos 0 ∷ pos 0 ∷ []) (0 ∷ 3 ∷ 1 ∷ 2 ∷ []) 7;
+      call = embed (pos 0 ∷ pos 2 ∷ pos 10 ∷ []) (pos 0 ∷ pos 0 ∷ pos 0 ∷ []) (0 ∷ 0 ∷ 0 ∷ []) (0 ∷ 3 ∷ 1 ∷ 2 ∷ []) 7;
       gives = record { said = embedded (NoTree (Joins 0)); table = []; js = []; us = []; vs = []; ws = [] };
     }
     -- 6: a node twice in a pair
     ∷ record {
-      call = embed (pos 0 ∷ pos 2 ∷ pos 10 ∷ []) (pos 0 ∷ pos 0 ∷ pos 0 ∷ []) (1 ∷ 1 ∷ 3 ∷ 2 ∷ []) 7;
+      call = embed (pos 0 ∷ pos 2 ∷ pos 10 ∷ []) (pos 0 ∷ pos 0 ∷ pos 0 ∷ []) (0 ∷ 0 ∷ 0 ∷ []) (1 ∷ 1 ∷ 3 ∷ 2 ∷ []) 7;
       gives = record { said = embedded (NoTree (Joins 0)); table = []; js = []; us = []; vs = []; ws = [] };
     }
     -- 7: a buffer one too short
     ∷ record {
-      call = embed (pos 0 ∷ pos 4 ∷ []) (pos 0 ∷ pos 0 ∷ []) (0 ∷ 1 ∷ []) 2;
+      call = embed (pos 0 ∷ pos 4 ∷ []) (pos 0 ∷ pos 0 ∷ []) (0 ∷ 0 ∷ []) (0 ∷ 1 ∷ []) 2;
       gives = record { said = embedded (NoTree Room); table = []; js = []; us = []; vs = []; ws = [] };
     }
     -- case D, its file byte for byte
@@ -300,17 +300,116 @@ computed =
     }
     ∷ []
 
+-- document 02, Q-7: sinks with their own delay
+unfoldable pub delayed : List Row
+delayed =
+    -- one sink with delay 7: its box is u from -9 to 5 and v from 1 to 15, so d is 14, and U = 2·5 - 14, V = 2·15 - 14; total 0 + 14 - 14
+    record {
+      call = search (pos 3 ∷ []) (negsuc 4 ∷ []) (7 ∷ []) 0;
+      gives = record { said = searched (found.Tree (record { total = 0; steps = 0; proven = true })); table = 0 ∷ 0 ∷ []; js = []; us = negsuc 3 ∷ []; vs = pos 16 ∷ []; ws = 0 ∷ [] };
+    }
+    -- two sinks at x = 0 and 10 with delays 3 and 1: u from -3 to 3 and from 9 to 11, d = 11 - (-3) = 14; root 2·11 - 14 = 8; wires 14 - 6 and 14 - 2; total 14 + 14 - 8.
+    -- paths plus delays: 8 + 6 and 12 + 2
+    ∷ record {
+      call = embed (pos 0 ∷ pos 10 ∷ []) (pos 0 ∷ pos 0 ∷ []) (3 ∷ 1 ∷ []) (0 ∷ 1 ∷ []) 7;
+      gives = record { said = embedded (Tree 20); table = []; js = []; us = pos 0 ∷ pos 20 ∷ pos 8 ∷ []; vs = pos 0 ∷ pos 20 ∷ pos 8 ∷ []; ws = 8 ∷ 12 ∷ 0 ∷ [] };
+    }
+    -- a sink whose box swallows the other: delay 10 at x = 0, so u from -10 to 10 holds 3; d = 20 is its own, its wire is 0, and the root stands on it; total 20 + 20 - 20.
+    -- The other's wire of 20 snakes over a distance of 6
+    ∷ record {
+      call = embed (pos 0 ∷ pos 3 ∷ []) (pos 0 ∷ pos 0 ∷ []) (10 ∷ 0 ∷ []) (0 ∷ 1 ∷ []) 7;
+      gives = record { said = embedded (Tree 20); table = []; js = []; us = pos 0 ∷ pos 6 ∷ pos 0 ∷ []; vs = pos 0 ∷ pos 6 ∷ pos 0 ∷ []; ws = 0 ∷ 20 ∷ 0 ∷ [] };
+    }
+    -- equal delays change no place and no wire, only d: case P3 with delay 5 has d = 14 for 4, and total 14 + 14 - 20
+    ∷ record {
+      call = embed (pos 0 ∷ pos 4 ∷ []) (pos 0 ∷ pos 0 ∷ []) (5 ∷ 5 ∷ []) (0 ∷ 1 ∷ []) 7;
+      gives = record { said = embedded (Tree 8); table = []; js = []; us = pos 0 ∷ pos 8 ∷ pos 4 ∷ []; vs = pos 0 ∷ pos 8 ∷ pos 4 ∷ []; ws = 4 ∷ 4 ∷ 0 ∷ [] };
+    }
+    -- corners of the plane with the largest delays: v from -3,000,000 to 3,000,000, so d = 6,000,000 for both joins; total 3 · 6,000,000 - 6,000,000
+    ∷ record {
+      call = embed (negsuc 999999 ∷ pos 1000000 ∷ pos 1000000 ∷ []) (pos 1000000 ∷ negsuc 999999 ∷ pos 1000000 ∷ []) (1000000 ∷ 1000000 ∷ 1000000 ∷ []) (0 ∷ 1 ∷ 2 ∷ 3 ∷ []) 7;
+      gives = record { said = embedded (Tree 12000000); table = []; js = []; us = pos 0 ∷ pos 0 ∷ pos 4000000 ∷ pos 0 ∷ pos 0 ∷ []; vs = negsuc 3999999 ∷ pos 4000000 ∷ pos 0 ∷ pos 0 ∷ pos 0 ∷ []; ws = 4000000 ∷ 4000000 ∷ 4000000 ∷ 0 ∷ 0 ∷ [] };
+    }
+    -- joining: x = 0, 4, 6, and sink 2 delayed by 5. Unions: 0 and 1 have 4; 0 and 2 have 6 + 5 = 11; 1 and 2 have 2·5 = 10, for 2 + 5 is less: so 0 and 1 come first, where 1 and 2 would without the delay
+    ∷ record {
+      call = join (pos 0 ∷ pos 4 ∷ pos 6 ∷ []) (pos 0 ∷ pos 0 ∷ pos 0 ∷ []) (0 ∷ 0 ∷ 5 ∷ []) 6;
+      gives = record { said = joined Order; table = []; js = 0 ∷ 1 ∷ 2 ∷ 3 ∷ []; us = []; vs = []; ws = [] };
+    }
+    -- the same sinks searched: subsets 3, 5, 6 hold 4, 11, 10; of all, d = 11 and the least sum is 4, of part 3: 15. Total 15 + 11 - 10.
+    -- Root 2·11 - 11; node 3 from 2·4 - 4; wires 4, 4, 11 - 10, 11 - 4
+    ∷ record {
+      call = search (pos 0 ∷ pos 4 ∷ pos 6 ∷ []) (pos 0 ∷ pos 0 ∷ pos 0 ∷ []) (0 ∷ 0 ∷ 5 ∷ []) 6;
+      gives = record { said = searched (found.Tree (record { total = 16; steps = 6; proven = true })); table = 0 ∷ 0 ∷ 0 ∷ 4 ∷ 0 ∷ 11 ∷ 10 ∷ 15 ∷ []; js = 0 ∷ 1 ∷ 3 ∷ 2 ∷ []; us = pos 0 ∷ pos 8 ∷ pos 12 ∷ pos 4 ∷ pos 11 ∷ []; vs = pos 0 ∷ pos 8 ∷ pos 12 ∷ pos 4 ∷ pos 11 ∷ []; ws = 4 ∷ 4 ∷ 1 ∷ 7 ∷ 0 ∷ [] };
+    }
+    -- case D with sink 3 delayed by 3: pairs with it have 14, 10, 7, triples 18, 21, 13. Of all, d = 14; sums by rising parts: 13, 11, 17, 10, 17, 18, 21. The least, 10, is of part 7, so sink 3 is joined last.
+    -- Total 24 + 14 - 6
+    ∷ record {
+      call = search (pos 0 ∷ pos 4 ∷ pos 7 ∷ pos 11 ∷ []) (pos 0 ∷ pos 0 ∷ pos 0 ∷ pos 0 ∷ []) (0 ∷ 0 ∷ 0 ∷ 3 ∷ []) 25;
+      gives = record { said = searched (found.Tree (record { total = 32; steps = 25; proven = true })); table = 0 ∷ 0 ∷ 0 ∷ 4 ∷ 0 ∷ 7 ∷ 3 ∷ 10 ∷ 0 ∷ 14 ∷ 10 ∷ 18 ∷ 7 ∷ 21 ∷ 13 ∷ 24 ∷ []; js = 1 ∷ 2 ∷ 0 ∷ 4 ∷ 5 ∷ 3 ∷ []; us = pos 0 ∷ pos 8 ∷ pos 14 ∷ pos 22 ∷ pos 11 ∷ pos 7 ∷ pos 14 ∷ []; vs = pos 0 ∷ pos 8 ∷ pos 14 ∷ pos 22 ∷ pos 11 ∷ pos 7 ∷ pos 14 ∷ []; ws = 7 ∷ 3 ∷ 3 ∷ 8 ∷ 4 ∷ 7 ∷ 0 ∷ [] };
+    }
+    -- one step below F(4): the same table, unproven, with the tree of joining by least diameter: 1 and 2 (3), then 0 and 4 (7; sinks 2 and 3 have 7 too, but 2 is gone), then 3 and 5
+    ∷ record {
+      call = search (pos 0 ∷ pos 4 ∷ pos 7 ∷ pos 11 ∷ []) (pos 0 ∷ pos 0 ∷ pos 0 ∷ pos 0 ∷ []) (0 ∷ 0 ∷ 0 ∷ 3 ∷ []) 24;
+      gives = record { said = searched (found.Tree (record { total = 32; steps = 24; proven = false })); table = 0 ∷ 0 ∷ 0 ∷ 4 ∷ 0 ∷ 7 ∷ 3 ∷ 10 ∷ 0 ∷ 14 ∷ 10 ∷ 18 ∷ 7 ∷ 21 ∷ 13 ∷ 24 ∷ []; js = 1 ∷ 2 ∷ 0 ∷ 4 ∷ 3 ∷ 5 ∷ []; us = pos 0 ∷ pos 8 ∷ pos 14 ∷ pos 22 ∷ pos 11 ∷ pos 7 ∷ pos 14 ∷ []; vs = pos 0 ∷ pos 8 ∷ pos 14 ∷ pos 22 ∷ pos 11 ∷ pos 7 ∷ pos 14 ∷ []; ws = 7 ∷ 3 ∷ 3 ∷ 8 ∷ 4 ∷ 7 ∷ 0 ∷ [] };
+    }
+    -- a delay of 1,000,000 is accepted
+    ∷ record {
+      call = check 512 (pos 0 ∷ []) (pos 0 ∷ []) (1000000 ∷ []);
+      gives = record { said = checked Fine; table = []; js = []; us = []; vs = []; ws = [] };
+    }
+    -- 15: 1,000,001 is not, at the lowest such sink
+    ∷ record {
+      call = embed (pos 0 ∷ pos 1 ∷ pos 2 ∷ []) (pos 0 ∷ pos 0 ∷ pos 0 ∷ []) (0 ∷ 1000001 ∷ 1000001 ∷ []) (0 ∷ 1 ∷ 3 ∷ 2 ∷ []) 7;
+      gives = record { said = embedded (NoTree (Late 1)); table = []; js = []; us = []; vs = []; ws = [] };
+    }
+    -- 4 before 15, though at a higher sink
+    ∷ record {
+      call = embed (pos 0 ∷ pos 1 ∷ []) (pos 0 ∷ pos 1000001 ∷ []) (1000001 ∷ 5 ∷ []) (0 ∷ 1 ∷ []) 7;
+      gives = record { said = embedded (NoTree (Outside 1)); table = []; js = []; us = []; vs = []; ws = [] };
+    }
+    -- and at the same
+    ∷ record {
+      call = check 512 (pos 1000001 ∷ []) (pos 0 ∷ []) (1000001 ∷ []);
+      gives = record { said = checked (Refused (Outside 0)); table = []; js = []; us = []; vs = []; ws = [] };
+    }
+    -- 15 before 6
+    ∷ record {
+      call = embed (pos 0 ∷ pos 1 ∷ []) (pos 0 ∷ pos 0 ∷ []) (5 ∷ 1000001 ∷ []) (0 ∷ 0 ∷ []) 7;
+      gives = record { said = embedded (NoTree (Late 1)); table = []; js = []; us = []; vs = []; ws = [] };
+    }
+    -- 15 before 7
+    ∷ record {
+      call = embed (pos 0 ∷ pos 1 ∷ []) (pos 0 ∷ pos 0 ∷ []) (5 ∷ 1000001 ∷ []) (0 ∷ 1 ∷ []) 0;
+      gives = record { said = embedded (NoTree (Late 1)); table = []; js = []; us = []; vs = []; ws = [] };
+    }
+    -- 15 in the search, of twelve sinks
+    ∷ record {
+      call = search (replicate 12 (pos 0)) (replicate 12 (pos 0)) (replicate 11 0 ++ (4294967295 ∷ [])) 9;
+      gives = record { said = searched (found.NoTree (Late 11)); table = []; js = []; us = []; vs = []; ws = [] };
+    }
+    -- 1: too few delays
+    ∷ record {
+      call = embed (pos 0 ∷ pos 1 ∷ []) (pos 0 ∷ pos 0 ∷ []) (5 ∷ []) (0 ∷ 1 ∷ []) 7;
+      gives = record { said = embedded (NoTree Lists); table = []; js = []; us = []; vs = []; ws = [] };
+    }
+    -- before 2
+    ∷ record {
+      call = check 512 [] [] (0 ∷ []);
+      gives = record { said = checked (Refused Lists); table = []; js = []; us = []; vs = []; ws = [] };
+    }
+    ∷ []
+
 -- and one with too many steps for that. All twelve pins on one place: proven, and no wire
 unfoldable pub twelve : Row
 twelve =
     record {
-      call = say (replicate 12 (pos 3)) (replicate 12 (negsuc 4)) 261625;
+      call = say (replicate 12 (pos 3)) (replicate 12 (negsuc 4)) (replicate 12 0) 261625;
       gives = record { said = searched (found.Tree (record { total = 0; steps = 261625; proven = true })); table = []; js = []; us = []; vs = []; ws = [] };
     }
 
 -- P1 to P12, and the further rows
 unfoldable pub table : List Row
-table = computed ++ (twelve ∷ [])
+table = computed ++ (delayed ++ (twelve ∷ []))
 
 unfoldable pub called : Row → Outcome
 called r = outcome (r .call)

@@ -14,7 +14,8 @@ use Rattle.plane.specs.declared.refusal.Checked.{Checked}
 use Rattle.plane.specs.declared.refusal.Checked.the-variants.{Fine, Refused}
 use Rattle.house.specs.declared.answer.Written.the-variants.{Bytes, NotWritten}
 use Rattle.house.specs.declared.answer.Reading.the-variants.{Sinks, NotRead}
-use Rattle.plane.specs.Sinks.{checkSinks}
+use Rattle.plane.specs.Sinks.{prompt, checkPlaces, checkSinks}
+use Rattle.plane.proofs.Checks.{check-prompt}
 use Rattle.house.specs.declared.answer.Reading.{Reading}
 use Rattle.house.specs.Writing.{Writes}
 use Rattle.house.specs.Reading.{ReadsSinks, xsIn}
@@ -59,12 +60,13 @@ pub front-part : {A : Type 0} {l : List A} (new old : List A) (n : ℕ) → l �
 front-part {A} {l} new old n p e = let z : n - 0 ≡ n = omega arith in rw (z, p) (take-at new _ n e)
 
 -- over the limit, where the lists are alike
-pub too-many : (limit : ℕ) (xs ys : List ℤ) (n : ℕ) → length xs ≡ n → length ys ≡ n → limit < n → Refused TooMany ≡ checkSinks limit xs ys
-unfolding checkSinks
+pub too-many : (limit : ℕ) (xs ys : List ℤ) (n : ℕ) → length xs ≡ n → length ys ≡ n → limit < n → Refused TooMany ≡ checkSinks limit xs ys (prompt xs)
+unfolding checkPlaces
 too-many limit xs ys n p q h =
     let a : length xs ≡ length ys = p ∙ sym q in
     let z : length xs ≡ 0 → ⊥ = λ e. omega arith in
-    simp (eq-eqb (length xs) (length ys) a, ne-eqb (length xs) 0 z, lt-ltb limit (length xs) (omega arith))
+    rw (check-prompt limit xs ys)
+    (simp (eq-eqb (length xs) (length ys) a, ne-eqb (length xs) 0 z, lt-ltb limit (length xs) (omega arith)))
 
 -- how many sinks stand in a file
 pub sinks-in : {v : List ℕ} (f : List ℕ) → v ≡ valueOf f 2 → length (xsIn f) ≡ length v / 8

@@ -7,6 +7,7 @@ use borrow.Author.Tests.{eq-eqb, eqb-true, not-false}
 use lib.Dec.{eqb}
 use lib.IntN.{ℤ}
 use lib.ListN.{length, getD}
+use Rattle.plane.specs.Sinks.{prompt}
 use Rattle.plane.specs.declared.refusal.Checked.the-variants.{Fine}
 use Rattle.embedding.specs.Joins.{left, right}
 use Rattle.embedding.specs.Sound.{Ordered, Sound}
@@ -42,7 +43,7 @@ pub record JoinsBack (xs ys : List ℤ) (js : List ℕ) : Type 0 where
   pub same-y : ysIn (joinedFile xs ys js) ≡ ys
   pub same-j : joinsIn (joinedFile xs ys js) ≡ js
 
-pub joins-back : (xs ys : List ℤ) (js : List ℕ) → Sound xs ys js → JoinsBack xs ys js
+pub joins-back : (xs ys : List ℤ) (js : List ℕ) → Sound xs ys (prompt xs) js → JoinsBack xs ys js
 unfolding joinedFile past
 joins-back xs ys js s =
     let o = s .joins in

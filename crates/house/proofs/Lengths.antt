@@ -5,7 +5,7 @@ use Prim.Native.Nat.{ℕ, _+_, _-_, _*_, _≤_, _<_}
 use native.Mathlib.Omega.{arith}
 use lib.IntN.{ℤ}
 use lib.ListN.{length, length-append}
-use Rattle.plane.specs.Sinks.{sinksAt}
+use Rattle.plane.specs.Sinks.{sinksAt, prompt}
 use Rattle.embedding.specs.Joins.{Valid}
 use Rattle.embedding.specs.Embedding.{placesU, placesV, wires}
 use Rattle.embedding.specs.Sound.{Sound}
@@ -33,7 +33,7 @@ unfolding joinedFile
 length-joinedFile xs ys js v h = simp (length-append, length-field, length-places, length-numbers) (omega (arith, v .count))
 
 -- a tree file begins as a joined file
-pub tree-is : (xs ys : List ℤ) (js : List ℕ) → treeFile xs ys js ≡ joinedFile xs ys js ++ (field 4 (places (placesU (sinksAt xs ys) js) (placesV (sinksAt xs ys) js)) ++ field 5 (numbers 4 (wires (sinksAt xs ys) js)))
+pub tree-is : (xs ys : List ℤ) (js : List ℕ) → treeFile xs ys js ≡ joinedFile xs ys js ++ (field 4 (places (placesU (sinksAt xs ys (prompt xs)) js) (placesV (sinksAt xs ys (prompt xs)) js)) ++ field 5 (numbers 4 (wires (sinksAt xs ys (prompt xs)) js)))
 unfolding treeFile joinedFile
 tree-is xs ys js = simp (append-nil, append-assoc)
 
@@ -42,5 +42,5 @@ length-treeFile xs ys js v h =
     rw tree-is (simp (length-append, length-joinedFile xs ys js v h, length-field, length-places, length-numbers) (omega (arith, length-U xs ys js, length-wires xs ys js)))
 
 -- "A longest tree file has 18,432 bytes."
-pub longest : (xs ys : List ℤ) (js : List ℕ) → Sound xs ys js → length (treeFile xs ys js) ≤ 18432
+pub longest : (xs ys : List ℤ) (js : List ℕ) → Sound xs ys (prompt xs) js → length (treeFile xs ys js) ≤ 18432
 longest xs ys js s = omega (arith, length-treeFile xs ys js (s .joins .valid) (s .joins .some), s .joins .few)

@@ -5,17 +5,17 @@ use mathlib.Core.Logic.{⊎-elim}
 use Prim.Native.Nat.{ℕ, _+_, _%_, _≤_, _<_}
 use native.Mathlib.Omega.{arith}
 use borrow.Author.Tests.{eq-eqb, eqb-true, not-false}
-use lib.Dec.{T, eqb}
+use lib.Dec.{eqb}
 use lib.IntN.{ℤ, pos, negsuc}
 use lib.ListN.{length, getD, List·getD-eq-default}
 use lib.Seq.{drop-cons}
 use mir.Syntax.{w32}
 use mir.Val.{SFits}
 use Rattle.lists.proofs.Tests.{or-lt}
-use Rattle.plane.specs.Range.{inRange}
-use Rattle.plane.specs.Sinks.{checkSinks, Ranged}
+use Rattle.plane.specs.Range.{Central}
+use Rattle.plane.specs.Sinks.{prompt, checkSinks, Fitting}
 use Rattle.plane.specs.declared.refusal.Checked.the-variants.{Fine}
-use Rattle.plane.proofs.Checks.{accepted, in-both}
+use Rattle.plane.proofs.Checks.{accepted, fitting}
 use Rattle.plane.proofs.Numbers.{lift-range}
 use Rattle.house.specs.Bytes.{Bytes}
 use Rattle.house.specs.Fields.{fields, version, places, firsts, seconds}
@@ -28,18 +28,18 @@ use Rattle.house.proofs.Standing.{Stands, Whole, more, whole}
 use Rattle.house.proofs.Fieldwise.{Fair, none, also, written-form, made, part-bytes, value-long}
 
 -- ---- written values are fair
-fits-range : (x : ℤ) → T (inRange x) → SFits w32 x
-fits-range (pos n) t = record { sfits = omega (arith, lift-range (pos n) t) }
-fits-range (negsuc n) t = record { sfits = omega (arith, lift-range (negsuc n) t) }
+fits-near : (x : ℤ) → Central x → SFits w32 x
+fits-near (pos n) t = record { sfits = omega (arith, lift-range (pos n) t) }
+fits-near (negsuc n) t = record { sfits = omega (arith, lift-range (negsuc n) t) }
 
 pub wide : (xs : List ℤ) → ((i : ℕ) → i < length xs → SFits w32 (getD xs i (pos 0))) → Wide xs
 wide xs h = record { fits = λ i. ⊎-elim (h i) (λ l. rw (List·getD-eq-default xs (pos 0) {n = i} l) (record { sfits = omega arith })) (or-lt i (length xs)) }
 
-pub wide-x : (xs ys : List ℤ) → Ranged xs ys → Wide xs
-wide-x xs ys r = wide xs (λ i h. fits-range _ (in-both xs ys r i h .0))
+pub wide-x : (xs ys : List ℤ) → Fitting xs ys (prompt xs) → Wide xs
+wide-x xs ys f = wide xs (λ i h. fits-near _ (f .near-x i h))
 
-pub wide-y : (xs ys : List ℤ) → Ranged xs ys → Wide ys
-wide-y xs ys r = wide ys (λ i h. fits-range _ (in-both xs ys r i (rw (r .alike) h) .1))
+pub wide-y : (xs ys : List ℤ) → Fitting xs ys (prompt xs) → Wide ys
+wide-y xs ys f = wide ys (λ i h. fits-near _ (f .near-y i (rw (f .alike) h)))
 
 pub fair-version : Fair 1 version
 fair-version = record { long = refl; small = omega arith; version = λ rest. refl }
@@ -55,17 +55,17 @@ pub record SinksBack (xs ys : List ℤ) : Type 0 where
   pub same-x : xsIn (sinkFile xs ys) ≡ xs
   pub same-y : ysIn (sinkFile xs ys) ≡ ys
 
-pub sinks-back : (xs ys : List ℤ) → checkSinks 512 xs ys ≡ Fine → SinksBack xs ys
+pub sinks-back : (xs ys : List ℤ) → checkSinks 512 xs ys (prompt xs) ≡ Fine → SinksBack xs ys
 unfolding sinkFile past
 sinks-back xs ys q =
-    let m = accepted 512 xs ys q in
+    let m = accepted 512 xs ys (prompt xs) q in
     let vs = version ∷ places xs ys ∷ [] in
     let (a, b) = written-form (fields 1 vs) [] 0 1 vs refl refl (also fair-version (also (fair-sinks xs ys (omega (arith, m .few))) none)) in
     let e : valueOf (sinkFile xs ys) 2 ≡ places xs ys = cc in
     record {
       formed = a;
-      same-x = ap firsts e ∙ firsts-back xs ys (wide-x xs ys (m .ranged));
-      same-y = ap seconds e ∙ seconds-back xs ys (wide-y xs ys (m .ranged)) (m .ranged .alike);
+      same-x = ap firsts e ∙ firsts-back xs ys (wide-x xs ys (fitting (m .ranged)));
+      same-y = ap seconds e ∙ seconds-back xs ys (wide-y xs ys (fitting (m .ranged))) (m .ranged .alike);
     }
 
 -- ---- accepted values are written back

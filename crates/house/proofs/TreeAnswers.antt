@@ -8,7 +8,7 @@ use lib.IntN.{ℤ}
 use lib.ListN.{length}
 use Rattle.lists.specs.First.{first}
 use Rattle.lists.proofs.Grow.{length-grow}
-use Rattle.plane.specs.Sinks.{sinksAt}
+use Rattle.plane.specs.Sinks.{sinksAt, prompt}
 use Rattle.plane.specs.declared.refusal.Refusal.the-variants.{Tags, Unlike}
 use Rattle.plane.specs.declared.refusal.Checked.the-variants.{Fine, Refused}
 use Rattle.embedding.specs.Embedding.{placesU, placesV, wires}
@@ -39,17 +39,17 @@ module _ (us vs : List ℤ) (ws : List ℕ) (fu fv : List ℤ) (fw : List ℕ) w
           simp (eq-eqb (length fu) (length us) p, eq-eqb (length fw) (length us) q, le-ltb (first (unlike us vs ws fu fv fw) 0 (length us)) (length us) (rw e at h))
 
 module _ (xs ys : List ℤ) (js : List ℕ) where
-  pub length-U : length (placesU (sinksAt xs ys) js) ≡ 2 * length xs - 1
+  pub length-U : length (placesU (sinksAt xs ys (prompt xs)) js) ≡ 2 * length xs - 1
   length-U = length-grow _ (2 * length xs - 1)
 
-  pub length-V : length (placesV (sinksAt xs ys) js) ≡ 2 * length xs - 1
+  pub length-V : length (placesV (sinksAt xs ys (prompt xs)) js) ≡ 2 * length xs - 1
   length-V = length-grow _ (2 * length xs - 1)
 
-  pub length-wires : length (wires (sinksAt xs ys) js) ≡ 2 * length xs - 1
+  pub length-wires : length (wires (sinksAt xs ys (prompt xs)) js) ≡ 2 * length xs - 1
   length-wires = length-grow _ (2 * length xs - 1)
 
 -- how long the values of checked sinks and joins are at most
-module _ (v w : List ℕ) (s : Sound (firsts v) (seconds v) (numbersIn 2 w)) where
+module _ (v w : List ℕ) (s : Sound (firsts v) (seconds v) (prompt (firsts v)) (numbersIn 2 w)) where
   pub few-sinks : length v / 8 ≤ 512
   few-sinks = omega (arith, length-firsts v, s .joins .few)
 

@@ -14,12 +14,13 @@ use Rattle.lists.specs.First.{first}
 use Rattle.lists.proofs.Tests.{and-both, or-lt}
 use Rattle.lists.proofs.First.{first-hit, first-none}
 use Rattle.plane.specs.Range.{equal}
-use Rattle.plane.specs.Sinks.{sinksAt}
+use Rattle.plane.specs.Sinks.{sinksAt, prompt}
 use Rattle.plane.specs.declared.refusal.Refusal.the-variants.{Tags, Unlike}
 use Rattle.plane.specs.declared.refusal.Checked.the-variants.{Fine}
-use Rattle.plane.proofs.Checks.{passed}
+use Rattle.plane.proofs.Checks.{passed, both-pass}
+use Rattle.plane.proofs.Spread.{fitting-spread}
 use Rattle.embedding.specs.Embedding.{placesU, placesV, wires, checkOrder}
-use Rattle.embedding.proofs.Accepted.{both-pass, order-sound}
+use Rattle.embedding.proofs.Bounded.{order-sound}
 use Rattle.embedding.proofs.Fits.{places-u-fit, places-v-fit, wires-bounded}
 use Rattle.house.specs.Bytes.{Bytes}
 use Rattle.house.specs.Fields.{fields, version, places, numbers, firsts, seconds, numbersIn}
@@ -88,7 +89,7 @@ pub tree-kept : (f : List ℕ) → Bytes f → checkTreeFile f ≡ Fine → tree
 unfolding treeFile checkTreeFile checkTags past
 tree-kept f b q =
     let (a, r) = both-pass (form 5 f) _ q in
-    let d = both-pass (checkOrder xs ys js) _ r .1 in
+    let d = both-pass (checkOrder xs ys (prompt xs) js) _ r .1 in
     go (whole f 5 1 0 a) (nodes-same us vs ws (firsts v4) (seconds v4) (numbersIn 4 v5) (length-U xs ys js ∙ sym (length-V xs ys js)) (length-U xs ys js ∙ sym (length-wires xs ys js)) (length-firsts v4 ∙ sym (length-seconds v4)) d)
   where
     xs : List ℤ
@@ -101,13 +102,13 @@ tree-kept f b q =
     js = joinsIn f
 
     us : List ℤ
-    us = placesU (sinksAt xs ys) js
+    us = placesU (sinksAt xs ys (prompt xs)) js
 
     vs : List ℤ
-    vs = placesV (sinksAt xs ys) js
+    vs = placesV (sinksAt xs ys (prompt xs)) js
 
     ws : List ℕ
-    ws = wires (sinksAt xs ys) js
+    ws = wires (sinksAt xs ys (prompt xs)) js
 
     v4 : List ℕ
     v4 = valueOf f 4
@@ -158,15 +159,17 @@ pub record TreeBack (xs ys : List ℤ) (js : List ℕ) : Type 0 where
   pub same-y : ysIn (treeFile xs ys js) ≡ ys
   pub same-j : joinsIn (treeFile xs ys js) ≡ js
 
-pub tree-back : (xs ys : List ℤ) (js : List ℕ) → checkOrder xs ys js ≡ Fine → TreeBack xs ys js
+pub tree-back : (xs ys : List ℤ) (js : List ℕ) → checkOrder xs ys (prompt xs) js ≡ Fine → TreeBack xs ys js
 unfolding treeFile checkTreeFile checkTags past
 tree-back xs ys js q =
-    let s = order-sound xs ys js q in
+    let s = order-sound xs ys (prompt xs) js q in
     let o = s .joins in
     let few = o .few in
-    let us = placesU (sinksAt xs ys) js in
-    let vs = placesV (sinksAt xs ys) js in
-    let ws = wires (sinksAt xs ys) js in
+    let sinks = sinksAt xs ys (prompt xs) in
+    let spread = fitting-spread (s .sinks) in
+    let us = placesU sinks js in
+    let vs = placesV sinks js in
+    let ws = wires sinks js in
     let lu = length-U xs ys js in
     let lv = length-V xs ys js in
     let lw = length-wires xs ys js in
@@ -179,7 +182,7 @@ tree-back xs ys js q =
     let x = ap firsts e2 ∙ firsts-back xs ys (wide-x xs ys (s .sinks)) in
     let y = ap seconds e2 ∙ seconds-back xs ys (wide-y xs ys (s .sinks)) (s .sinks .alike) in
     let j = ap (numbersIn 2) e3 ∙ numbers-back 2 js (omega arith) (small-nodes (length xs) js o) in
-    let u = ap firsts e4 ∙ firsts-back us vs (wide us (places-u-fit xs ys js s)) in
-    let v = ap seconds e4 ∙ seconds-back us vs (wide vs (places-v-fit xs ys js s)) (lu ∙ sym lv) in
-    let w = ap (numbersIn 4) e5 ∙ numbers-back 4 ws (omega arith) (λ k h. omega (arith, wires-bounded xs ys js s k h)) in
+    let u = ap firsts e4 ∙ firsts-back us vs (wide us (places-u-fit sinks spread js o)) in
+    let v = ap seconds e4 ∙ seconds-back us vs (wide vs (places-v-fit sinks spread js o)) (lu ∙ sym lv) in
+    let w = ap (numbersIn 4) e5 ∙ numbers-back 4 ws (omega arith) (λ k h. omega (arith, wires-bounded sinks spread js o k h)) in
     record { checked = rw (a, x, y, j, q, u, v, w) (nodes-fine us vs ws (lu ∙ sym lw)); same-x = x; same-y = y; same-j = j }

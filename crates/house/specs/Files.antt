@@ -1,8 +1,8 @@
--- Document 01, "House files": the three files as bytes. "Writers take sinks and joins and work out the rest."
+-- Document 01, "House files": the three files as bytes. "Writers take sinks and joins and work out the rest." Document 02, Q-7: "Files of version 1 mean w = 0, and their writers take no delays."
 use mathlib.Core.List.{List, [], _∷_}
 use Prim.Native.Nat.{ℕ}
 use lib.IntN.{ℤ}
-use Rattle.plane.specs.Sinks.{sinksAt}
+use Rattle.plane.specs.Sinks.{sinksAt, prompt}
 use Rattle.embedding.specs.Embedding.{placesU, placesV, wires}
 use Rattle.house.specs.Fields.{fields, version, places, numbers}
 
@@ -18,4 +18,4 @@ joinedFile xs ys js = fields 1 (version ∷ places xs ys ∷ numbers 2 js ∷ []
 unfoldable pub treeFile : List ℤ → List ℤ → List ℕ → List ℕ
 treeFile xs ys js =
     fields 1
-    (version ∷ places xs ys ∷ numbers 2 js ∷ places (placesU (sinksAt xs ys) js) (placesV (sinksAt xs ys) js) ∷ numbers 4 (wires (sinksAt xs ys) js) ∷ [])
+    (version ∷ places xs ys ∷ numbers 2 js ∷ places (placesU (sinksAt xs ys (prompt xs)) js) (placesV (sinksAt xs ys (prompt xs)) js) ∷ numbers 4 (wires (sinksAt xs ys (prompt xs)) js) ∷ [])

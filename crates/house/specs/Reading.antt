@@ -10,7 +10,7 @@ use Rattle.lists.specs.First.{first}
 use Rattle.lists.specs.Grow.{front}
 use Rattle.plane.specs.Range.{equal}
 use Rattle.plane.specs.Refusals.{refuseIf, andThen}
-use Rattle.plane.specs.Sinks.{sinksAt, checkSinks}
+use Rattle.plane.specs.Sinks.{sinksAt, prompt, checkSinks}
 use Rattle.plane.specs.declared.refusal.Refusal.the-variants.{Tags, Unlike}
 use Rattle.plane.specs.declared.refusal.Checked.{Checked}
 use Rattle.plane.specs.declared.refusal.Checked.the-variants.{Fine, Refused}
@@ -31,13 +31,13 @@ ysIn f = seconds (valueOf f 2)
 abbrev pub joinsIn : List ℕ → List ℕ
 joinsIn f = numbersIn 2 (valueOf f 3)
 
--- refusals 8 and 2 to 4
+-- refusals 8 and 2 to 4, of sinks without delays, as in all files of version 1
 unfoldable pub checkSinkFile : List ℕ → Checked
-checkSinkFile f = andThen (form 2 f) (checkSinks 512 (xsIn f) (ysIn f))
+checkSinkFile f = andThen (form 2 f) (checkSinks 512 (xsIn f) (ysIn f) (prompt (xsIn f)))
 
 -- refusals 8, 2 to 4 and 6
 unfoldable pub checkJoinedFile : List ℕ → Checked
-checkJoinedFile f = andThen (form 3 f) (checkOrder (xsIn f) (ysIn f) (joinsIn f))
+checkJoinedFile f = andThen (form 3 f) (checkOrder (xsIn f) (ysIn f) (prompt (xsIn f)) (joinsIn f))
 
 -- node k has another U, V or wire in a file than in the lists us, vs and ws
 abbrev pub unlike : List ℤ → List ℤ → List ℕ → List ℤ → List ℤ → List ℕ → ℕ → Bool
@@ -53,13 +53,13 @@ checkNodes us vs ws fu fv fw =
 
 unfoldable pub checkTags : List ℤ → List ℤ → List ℕ → List ℕ → List ℕ → Checked
 checkTags xs ys js v4 v5 =
-    checkNodes (placesU (sinksAt xs ys) js) (placesV (sinksAt xs ys) js) (wires (sinksAt xs ys) js) (firsts v4) (seconds v4) (numbersIn 4 v5)
+    checkNodes (placesU (sinksAt xs ys (prompt xs)) js) (placesV (sinksAt xs ys (prompt xs)) js) (wires (sinksAt xs ys (prompt xs)) js) (firsts v4) (seconds v4) (numbersIn 4 v5)
 
 -- refusals 8, 2 to 4, 6 and 9
 unfoldable pub checkTreeFile : List ℕ → Checked
 checkTreeFile f =
     andThen (form 5 f)
-    (andThen (checkOrder (xsIn f) (ysIn f) (joinsIn f))
+    (andThen (checkOrder (xsIn f) (ysIn f) (prompt (xsIn f)) (joinsIn f))
     (checkTags (xsIn f) (ysIn f) (joinsIn f) (valueOf f 4) (valueOf f 5)))
 
 abbrev pub readAfter : Checked → ℕ → Reading

@@ -2,6 +2,7 @@
 ghost use mathlib.Core.Path.{_≡_};
 ghost use Prim.Native.Nat.{_+_, _-_, _*_, _≤_, _<_};
 ghost use lib.ListN.{length};
+ghost use Rattle.plane.specs.Sinks.{prompt};
 ghost use Rattle.plane.specs.declared.refusal.Checked.the-variants.{Fine};
 ghost use Rattle.embedding.specs.Joins.{checkJoins};
 ghost use Rattle.embedding.specs.Embedding.{checkOrder};
@@ -24,7 +25,7 @@ use plane::refusal::Refusal;
 
 // The file of checked sinks and joins, and the byte after it.
 pub(crate) fn put_joined(out: &mut [u8], xs: &[i32], ys: &[i32], js: &[u16]) -> usize
-    requires { ⌜ Sound (now xs) (now ys) (now js) × (6 + 12 * length (now xs) ≤ length (now out)) ⌝ }
+    requires { ⌜ Sound (now xs) (now ys) (prompt (now xs)) (now js) × (6 + 12 * length (now xs) ≤ length (now out)) ⌝ }
     ensures { λ r. ⌜ Put 0 (joinedFile (now (xs .entry)) (now (ys .entry)) (now (js .entry))) (now (out .entry)) (now (out .exit)) r ⌝ }
 {
     let at = sink_file::put_sinks(out, xs, ys);
@@ -33,9 +34,9 @@ pub(crate) fn put_joined(out: &mut [u8], xs: &[i32], ys: &[i32], js: &[u16]) -> 
 
 // Refusals 1 to 4, 6 and 7, else the joined file in the lent buffer.
 pub fn write_joined(xs: &[i32], ys: &[i32], js: &[u16], out: &mut [u8]) -> Written
-    ensures { λ r. ⌜ Writes (checkOrder (now (xs .entry)) (now (ys .entry)) (now (js .entry))) (joinedFile (now (xs .entry)) (now (ys .entry)) (now (js .entry))) (now (out .entry)) r (now (out .exit)) ⌝ }
+    ensures { λ r. ⌜ Writes (checkOrder (now (xs .entry)) (now (ys .entry)) (prompt (now (xs .entry))) (now (js .entry))) (joinedFile (now (xs .entry)) (now (ys .entry)) (now (js .entry))) (now (out .entry)) r (now (out .exit)) ⌝ }
 {
-    let said = check::check_order(xs, ys, js);
+    let said = check::check_prompt(xs, ys, js);
     if let Checked::Refused(r) = said {
         return Written::NotWritten(r);
     }
@@ -61,7 +62,7 @@ fn check_pairs(v: &[u8], n: usize) -> Checked
 
 // Refusals 2 to 4 and 6, of the values of tags 2 and 3.
 pub(crate) fn check_values(v2: &[u8], v3: &[u8]) -> Checked
-    ensures { λ r. ⌜ r ≡ checkOrder (firsts (now (v2 .entry))) (seconds (now (v2 .entry))) (numbersIn 2 (now (v3 .entry))) ⌝ }
+    ensures { λ r. ⌜ r ≡ checkOrder (firsts (now (v2 .entry))) (seconds (now (v2 .entry))) (prompt (firsts (now (v2 .entry)))) (numbersIn 2 (now (v3 .entry))) ⌝ }
 {
     let said = sink_file::check_places(v2);
     if let Checked::Refused(r) = said {

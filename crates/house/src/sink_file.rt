@@ -2,7 +2,7 @@
 ghost use mathlib.Core.Path.{_≡_};
 ghost use Prim.Native.Nat.{_+_, _*_, _≤_};
 ghost use lib.ListN.{length};
-ghost use Rattle.plane.specs.Sinks.{checkSinks};
+ghost use Rattle.plane.specs.Sinks.{prompt, checkSinks};
 ghost use Rattle.plane.specs.declared.refusal.Checked.the-variants.{Fine};
 ghost use Rattle.house.specs.Fields.{field, version, firsts, seconds};
 ghost use Rattle.house.specs.Files.{sinkFile};
@@ -39,9 +39,9 @@ pub(crate) fn put_sinks(out: &mut [u8], xs: &[i32], ys: &[i32]) -> usize
 
 // Refusals 1 to 4 and 7, else the sink file in the lent buffer.
 pub fn write_sinks(xs: &[i32], ys: &[i32], out: &mut [u8]) -> Written
-    ensures { λ r. ⌜ Writes (checkSinks 512 (now (xs .entry)) (now (ys .entry))) (sinkFile (now (xs .entry)) (now (ys .entry))) (now (out .entry)) r (now (out .exit)) ⌝ }
+    ensures { λ r. ⌜ Writes (checkSinks 512 (now (xs .entry)) (now (ys .entry)) (prompt (now (xs .entry)))) (sinkFile (now (xs .entry)) (now (ys .entry))) (now (out .entry)) r (now (out .exit)) ⌝ }
 {
-    let said = sinks::check_sinks(xs, ys, 512);
+    let said = sinks::check_places(xs, ys, 512);
     if let Checked::Refused(r) = said {
         return Written::NotWritten(r);
     }
@@ -53,7 +53,7 @@ pub fn write_sinks(xs: &[i32], ys: &[i32], out: &mut [u8]) -> Written
 
 // Refusals 2 to 4, of the sinks in a value of places.
 pub(crate) fn check_places(v: &[u8]) -> Checked
-    ensures { λ r. ⌜ r ≡ checkSinks 512 (firsts (now (v .entry))) (seconds (now (v .entry))) ⌝ }
+    ensures { λ r. ⌜ r ≡ checkSinks 512 (firsts (now (v .entry))) (seconds (now (v .entry))) (prompt (firsts (now (v .entry)))) ⌝ }
 {
     let n = v.len() / 8;
     if 512 < n {
@@ -62,7 +62,7 @@ pub(crate) fn check_places(v: &[u8]) -> Checked
     let mut xs = [0i32; 512];
     let mut ys = [0i32; 512];
     record::get_places(v, &mut xs, &mut ys);
-    sinks::check_sinks(&xs[0..n], &ys[0..n], 512)
+    sinks::check_places(&xs[0..n], &ys[0..n], 512)
 }
 
 // Refusals 8 and 2 to 4.

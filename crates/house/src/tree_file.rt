@@ -5,6 +5,7 @@ ghost use Prim.Native.Nat.{_+_, _-_, _*_, _/_, _≤_, _<_};
 ghost use lib.IntN.{pos};
 ghost use lib.ListN.{length, getD};
 ghost use Rattle.lists.specs.First.{first};
+ghost use Rattle.plane.specs.Sinks.{prompt};
 ghost use Rattle.plane.specs.Range.{equal};
 ghost use Rattle.embedding.specs.Embedding.{checkOrder};
 ghost use Rattle.embedding.specs.Sound.{Sound};
@@ -37,23 +38,23 @@ fn put_tags(out: &mut [u8], at: usize, us: &[i32], vs: &[i32], ws: &[u32]) -> us
 
 // The file of checked sinks and joins, and the byte after it.
 fn put_tree(out: &mut [u8], xs: &[i32], ys: &[i32], js: &[u16]) -> usize
-    requires { ⌜ Sound (now xs) (now ys) (now js) × (36 * length (now xs) ≤ length (now out)) ⌝ }
+    requires { ⌜ Sound (now xs) (now ys) (prompt (now xs)) (now js) × (36 * length (now xs) ≤ length (now out)) ⌝ }
     ensures { λ r. ⌜ Put 0 (treeFile (now (xs .entry)) (now (ys .entry)) (now (js .entry))) (now (out .entry)) (now (out .exit)) r ⌝ }
 {
     let m = 2 * xs.len() - 1;
     let mut us = [0i32; 1023];
     let mut vs = [0i32; 1023];
     let mut ws = [0u32; 1023];
-    embed::embed_sound(xs, ys, js, &mut us, &mut vs, &mut ws);
+    embed::embed_prompt(xs, ys, js, &mut us, &mut vs, &mut ws);
     let at = joined_file::put_joined(out, xs, ys, js);
     put_tags(out, at, &us[0..m], &vs[0..m], &ws[0..m])
 }
 
 // Refusals 1 to 4, 6 and 7, else the tree file in the lent buffer.
 pub fn write_tree(xs: &[i32], ys: &[i32], js: &[u16], out: &mut [u8]) -> Written
-    ensures { λ r. ⌜ Writes (checkOrder (now (xs .entry)) (now (ys .entry)) (now (js .entry))) (treeFile (now (xs .entry)) (now (ys .entry)) (now (js .entry))) (now (out .entry)) r (now (out .exit)) ⌝ }
+    ensures { λ r. ⌜ Writes (checkOrder (now (xs .entry)) (now (ys .entry)) (prompt (now (xs .entry))) (now (js .entry))) (treeFile (now (xs .entry)) (now (ys .entry)) (now (js .entry))) (now (out .entry)) r (now (out .exit)) ⌝ }
 {
-    let said = check::check_order(xs, ys, js);
+    let said = check::check_prompt(xs, ys, js);
     if let Checked::Refused(r) = said {
         return Written::NotWritten(r);
     }
@@ -120,20 +121,20 @@ fn check_nodes(us: &[i32], vs: &[i32], ws: &[u32], v4: &[u8], v5: &[u8]) -> Chec
 
 // Refusal 9, of the values of tags 4 and 5, for checked sinks and joins.
 fn check_tags(xs: &[i32], ys: &[i32], js: &[u16], v4: &[u8], v5: &[u8]) -> Checked
-    requires { ⌜ Sound (now xs) (now ys) (now js) ⌝ }
+    requires { ⌜ Sound (now xs) (now ys) (prompt (now xs)) (now js) ⌝ }
     ensures { λ r. ⌜ r ≡ checkTags (now (xs .entry)) (now (ys .entry)) (now (js .entry)) (now (v4 .entry)) (now (v5 .entry)) ⌝ }
 {
     let m = 2 * xs.len() - 1;
     let mut us = [0i32; 1023];
     let mut vs = [0i32; 1023];
     let mut ws = [0u32; 1023];
-    embed::embed_sound(xs, ys, js, &mut us, &mut vs, &mut ws);
+    embed::embed_prompt(xs, ys, js, &mut us, &mut vs, &mut ws);
     check_nodes(&us[0..m], &vs[0..m], &ws[0..m], v4, v5)
 }
 
 // Refusal 9, of the values of tags 2 to 5, of which the first two were checked.
 fn check_tag_values(v2: &[u8], v3: &[u8], v4: &[u8], v5: &[u8]) -> Checked
-    requires { ⌜ Sound (firsts (now v2)) (seconds (now v2)) (numbersIn 2 (now v3)) ⌝ }
+    requires { ⌜ Sound (firsts (now v2)) (seconds (now v2)) (prompt (firsts (now v2))) (numbersIn 2 (now v3)) ⌝ }
     ensures { λ r. ⌜ r ≡ checkTags (firsts (now (v2 .entry))) (seconds (now (v2 .entry))) (numbersIn 2 (now (v3 .entry))) (now (v4 .entry)) (now (v5 .entry)) ⌝ }
 {
     let n = v2.len() / 8;

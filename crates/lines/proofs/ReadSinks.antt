@@ -5,13 +5,14 @@ use Prim.Native.Nat.{ℕ, _-_, _≤_}
 use native.Mathlib.Omega.{arith}
 use borrow.Author.Tests.{le-ltb}
 use lib.IntN.{ℤ}
-use lib.ListN.{length, take, drop, length-append}
-use Rattle.plane.specs.Sinks.{checkSinks}
+use lib.ListN.{length, take, drop, replicate, length-append}
+use Rattle.plane.specs.Sinks.{prompt, checkSinks}
 use Rattle.plane.specs.declared.refusal.Refusal.{Refusal}
 use Rattle.plane.specs.declared.refusal.Checked.{Checked}
 use Rattle.plane.specs.declared.refusal.Checked.the-variants.{Fine, Refused}
 use Rattle.plane.proofs.Checks.{accepted}
 use Rattle.plane.specs.Refusals.{andThen}
+use Rattle.lists.proofs.Zeros.{zeros-lent}
 use Rattle.house.specs.Form.{form}
 use Rattle.house.specs.Reading.{checkSinkFile, xsIn, ysIn, readAfter, ReadsSinks}
 use Rattle.house.specs.declared.answer.Reading.{Reading}
@@ -23,13 +24,13 @@ then-fine : (a b : Checked) → andThen a b ≡ Fine → b ≡ Fine
 then-fine Fine b e = e
 then-fine (Refused r) b e = let z : _≡_ {A = ℕ} 0 1 = cc in let x : ⊥ = omega arith in absurd x
 
-sinks-fine : (f : List ℕ) → checkSinkFile f ≡ Fine → checkSinks 512 (xsIn f) (ysIn f) ≡ Fine
+sinks-fine : (f : List ℕ) → checkSinkFile f ≡ Fine → checkSinks 512 (xsIn f) (ysIn f) (prompt (xsIn f)) ≡ Fine
 unfolding checkSinkFile
-sinks-fine f e = then-fine (form 2 f) (checkSinks 512 (xsIn f) (ysIn f)) e
+sinks-fine f e = then-fine (form 2 f) (checkSinks 512 (xsIn f) (ysIn f) (prompt (xsIn f))) e
 
-pub sinked : (f : List ℕ) → checkSinkFile f ≡ Fine → Sinked (xsIn f) (ysIn f)
+pub sinked : (f : List ℕ) → checkSinkFile f ≡ Fine → Sinked (xsIn f) (ysIn f) (prompt (xsIn f))
 sinked f e =
-    let a = accepted 512 (xsIn f) (ysIn f) (sinks-fine f e) in
+    let a = accepted 512 (xsIn f) (ysIn f) (prompt (xsIn f)) (sinks-fine f e) in
     record { ranged = a .ranged; some = a .some; few = a .few }
 
 module _ (f : List ℕ) {xs ys xs′ ys′ : List ℤ} {said : Reading} (m : ReadsSinks (checkSinkFile f) (xsIn f) (ysIn f) xs ys said xs′ ys′) (lx : length xs ≡ 512) (ly : length ys ≡ 512) where
@@ -53,6 +54,8 @@ module _ (f : List ℕ) {xs ys xs′ ys′ : List ℤ} {said : Reading} (m : Rea
     pub counts : n ≡ length (xsIn f)
     pub takes-x : take (n - 0) xs′ ≡ xsIn f
     pub takes-y : take (n - 0) ys′ ≡ ysIn f
+    pub takes-none : take {A = ℕ} (n - 0) (replicate 512 0) ≡ prompt (xsIn f)
+    pub few : n ≤ 512
     pub room-x : n ≤ length xs′
     pub room-y : n ≤ length ys′
 
@@ -65,11 +68,14 @@ module _ (f : List ℕ) {xs ys xs′ ys′ : List ℤ} {said : Reading} (m : Rea
           let t = rw e at said-is in
           let i : n ≡ length (xsIn f) = cc in
           let a = sinked f e .ranged .alike in
+          let l = sinked f e .few in
           record {
             fine = e;
             counts = i;
             takes-x = rw (rw q at (m .writes-x)) (written-part (xsIn f) xs n (sym i));
             takes-y = rw (rw q at (m .writes-y)) (written-part (ysIn f) ys n (sym a ∙ sym i));
+            takes-none = zeros-lent 512 n (rw i l) ∙ ap (λ (k : ℕ). replicate k 0) i;
+            few = rw i l;
             room-x = rw (rw q at (m .writes-x), length-append (xsIn f) (drop (length (xsIn f)) xs)) (omega arith);
             room-y = rw (rw q at (m .writes-y), length-append (ysIn f) (drop (length (ysIn f)) ys)) (omega arith);
           }

@@ -7,7 +7,7 @@ use borrow.Author.Tests.{le-ltb, lt-ltb, le-leb, lt-leb}
 use lib.IntN.{ℤ}
 use lib.ListN.{length}
 use Rattle.zero_skew.specs.Plane.{Sinks}
-use Rattle.plane.specs.Sinks.{sinksAt}
+use Rattle.plane.specs.Sinks.{sinksAt, prompt}
 use Rattle.plane.specs.declared.refusal.Refusal.{Refusal}
 use Rattle.plane.specs.declared.refusal.Checked.the-variants.{Fine, Refused}
 use Rattle.nearest.specs.Nearest.{order}
@@ -22,12 +22,12 @@ use Rattle.lines.specs.Program.{treeLines, joinsOf, linesOf, answerText,
 use Rattle.lines.specs.Parts.{Sinked}
 use Rattle.lines.proofs.Fronts.{Built}
 
-pub searched-built : (xs ys : List ℤ) → Sinked xs ys → length xs ≤ 12 → {table j : List ℕ} {a b : List ℤ} {w : List ℕ} {f : Found} {table′ j′ : List ℕ} {a′ b′ : List ℤ} {w′ : List ℕ}
-    → Finds xs ys (stepCount (length xs)) table j a b w f table′ j′ a′ b′ w′ → Built (sinksAt xs ys) (joinsFound (sinksAt xs ys) (stepCount (length xs))) (f .total) j j′ a a′ b b′ w w′
+pub searched-built : (xs ys : List ℤ) (delays : List ℕ) → Sinked xs ys delays → length xs ≤ 12 → {table j : List ℕ} {a b : List ℤ} {w : List ℕ} {f : Found} {table′ j′ : List ℕ} {a′ b′ : List ℤ} {w′ : List ℕ}
+    → Finds xs ys delays (stepCount (length xs)) table j a b w f table′ j′ a′ b′ w′ → Built (sinksAt xs ys delays) (joinsFound (sinksAt xs ys delays) (stepCount (length xs))) (f .total) j j′ a a′ b b′ w w′
 unfolding found
-searched-built xs ys s h m =
+searched-built xs ys delays s h m =
     record {
-      ordered = found-ordered xs ys (stepCount (length xs)) (s .ranged) (s .some) h;
+      ordered = found-ordered xs ys delays (stepCount (length xs)) (s .ranged) (s .some) h;
       sums = ap (λ (g : Found). g .total) (m .finds);
       has-j = m .writes-js;
       has-u = m .writes-u;
@@ -52,6 +52,6 @@ pub text-refused : (f : List ℕ) {r : Refusal} → length f ≤ 32768 → check
 unfolding textOf answerText
 text-refused f {r} h e = rw (le-ltb 32768 (length f) h, e)
 
-pub text-lines : (f : List ℕ) → length f ≤ 32768 → checkSinkFile f ≡ Fine → textOf f ≡ linesOf (sinksAt (xsIn f) (ysIn f))
+pub text-lines : (f : List ℕ) → length f ≤ 32768 → checkSinkFile f ≡ Fine → textOf f ≡ linesOf (sinksAt (xsIn f) (ysIn f) (prompt (xsIn f)))
 unfolding textOf answerText
 text-lines f h e = rw (le-ltb 32768 (length f) h, e)

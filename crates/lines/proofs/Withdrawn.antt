@@ -7,9 +7,9 @@ use lib.Dec.{ltb}
 use lib.ListN.{length, getD, take}
 use Rattle.lists.proofs.Tests.{choice}
 use Rattle.zero_skew.specs.Plane.{Sinks}
-use Rattle.plane.specs.Sinks.{sinksAt}
+use Rattle.plane.specs.Sinks.{sinksAt, prompt}
 use Rattle.plane.specs.declared.refusal.Refusal.{Refusal}
-use Rattle.plane.specs.declared.refusal.Refusal.the-variants.{Lists, NoSink, TooMany, Outside, Joins, Room, Form, Tags, Unlike}
+use Rattle.plane.specs.declared.refusal.Refusal.the-variants.{Lists, NoSink, TooMany, Outside, Joins, Room, Form, Tags, Unlike, Late}
 use Rattle.plane.specs.declared.refusal.Checked.{Checked}
 use Rattle.plane.specs.declared.refusal.Checked.the-variants.{Fine, Refused}
 use Rattle.house.specs.Reading.{checkSinkFile, xsIn, ysIn}
@@ -37,6 +37,7 @@ line-never Room e = omega (arith, byte 8 (refusalLine Room) e)
 line-never (Form i) e = omega (arith, byte 8 (refusalLine (Form i)) e)
 line-never Tags e = omega (arith, byte 8 (refusalLine Tags) e)
 line-never (Unlike i) e = omega (arith, byte 8 (refusalLine (Unlike i)) e)
+line-never (Late i) e = omega (arith, byte 8 (refusalLine (Late i)) e)
 
 answer-never : (c : Checked) (s : Sinks) → SaysFive (answerText c s) → ⊥
 unfolding answerText linesOf treeText firstLine
@@ -46,6 +47,6 @@ answer-never (Refused r) s e = line-never r e
 pub never-printed : (f : List ℕ) → SaysFive (textOf f) → ⊥
 unfolding textOf tooLong
 never-printed f =
-    choice (λ (t : List ℕ). SaysFive t → ⊥) (ltb 32768 (length f)) tooLong (answerText (checkSinkFile f) (sinksAt (xsIn f) (ysIn f)))
+    choice (λ (t : List ℕ). SaysFive t → ⊥) (ltb 32768 (length f)) tooLong (answerText (checkSinkFile f) (sinksAt (xsIn f) (ysIn f) (prompt (xsIn f))))
     (λ t e. omega (arith, byte 8 tooLong e))
-    (λ t e. answer-never (checkSinkFile f) (sinksAt (xsIn f) (ysIn f)) e)
+    (λ t e. answer-never (checkSinkFile f) (sinksAt (xsIn f) (ysIn f) (prompt (xsIn f))) e)

@@ -42,7 +42,7 @@ placeEnd None = feed ∷ []
 placeEnd (At i) = blank ∷ decimal i ++ (feed ∷ [])
 
 -- sinks that were checked
-pub record Sinked (xs ys : List ℤ) : Type 0 where
-  pub ranged : Ranged xs ys
+pub record Sinked (xs ys : List ℤ) (delays : List ℕ) : Type 0 where
+  pub ranged : Ranged xs ys delays
   pub some : 0 < length xs
   pub few : length xs ≤ 512

@@ -5,7 +5,7 @@ use Prim.Native.Nat.{ℕ}
 use lib.Dec.{leb, ltb}
 use lib.ListN.{length}
 use Rattle.zero_skew.specs.Plane.{Sinks}
-use Rattle.plane.specs.Sinks.{sinksAt}
+use Rattle.plane.specs.Sinks.{sinksAt, prompt}
 use Rattle.plane.specs.declared.refusal.Checked.{Checked}
 use Rattle.plane.specs.declared.refusal.Checked.the-variants.{Fine, Refused}
 use Rattle.embedding.specs.Embedding.{placesU, placesV, wires, total}
@@ -33,4 +33,4 @@ answerText (Refused r) s = refusalLine r
 
 -- "The tree program reads a sink file"; "Input over 32,768 bytes prints "refused input"."
 unfoldable pub textOf : List ℕ → List ℕ
-textOf f = cond (ltb 32768 (length f)) tooLong (answerText (checkSinkFile f) (sinksAt (xsIn f) (ysIn f)))
+textOf f = cond (ltb 32768 (length f)) tooLong (answerText (checkSinkFile f) (sinksAt (xsIn f) (ysIn f) (prompt (xsIn f))))

@@ -5,3 +5,4 @@ pub mod Any
 pub mod Grow
 pub mod Onto
 pub mod Sums
+pub mod Zeros

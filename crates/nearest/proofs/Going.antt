@@ -70,7 +70,7 @@ held-turn {s} {m} {sets} {bs} {bs′} p v e h g w =
 alone-at : (n k : ℕ) → k < n → getD (alone n) k [] ≡ k ∷ []
 alone-at n k h = getD-tab (λ i. i ∷ []) n k [] h
 
-pub held-begin : {xs ys : List ℤ} (n : ℕ) {bs : List ℕ} → Sinked xs ys n bs → Held (sinksAt xs ys) n (alone n) bs
+pub held-begin : {xs ys : List ℤ} {delays : List ℕ} (n : ℕ) {bs : List ℕ} → Sinked xs ys delays n bs → Held (sinksAt xs ys delays) n (alone n) bs
 held-begin n v = record { full = λ k h. rw (alone-at n k h) (omega arith); covers = λ k h. rw (alone-at n k h) (v .covers k h) }
 
 -- ---- after i joins of n sinks
@@ -84,7 +84,7 @@ pub record Going (s : Sinks) (n i : ℕ) (bs live rows js₀ js : List ℕ) : Ty
   pub size : length js ≡ length js₀
 
 -- at first, with all sinks at the front of a list
-pub going-begin : {xs ys : List ℤ} (n : ℕ) {bs live rows : List ℕ} (rest js : List ℕ) → Sinked xs ys n bs → live ≡ upTo n → Right bs (upTo n) n (rowAt rows) → Going (sinksAt xs ys) n 0 bs (take (n - 0) (live ++ rest)) rows js js
+pub going-begin : {xs ys : List ℤ} {delays : List ℕ} (n : ℕ) {bs live rows : List ℕ} (rest js : List ℕ) → Sinked xs ys delays n bs → live ≡ upTo n → Right bs (upTo n) n (rowAt rows) → Going (sinksAt xs ys delays) n 0 bs (take (n - 0) (live ++ rest)) rows js js
 unfolding order
 going-begin n {live = live} rest js v b m =
     let e : n + 0 ≡ n = omega arith in

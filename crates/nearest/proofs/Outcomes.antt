@@ -11,17 +11,17 @@ use Rattle.embedding.proofs.Outcomes.{Same}
 use Rattle.nearest.specs.declared.order.Joined.{Joined}
 use Rattle.nearest.specs.Calls.{orderAt, ifOrder, Joining, Embedding}
 
-pub only-join-nearest : (xs ys : List ℤ) (js : List ℕ) {r r′ : Joined} {j j′ : List ℕ} → Joining xs ys js r j → Joining xs ys js r′ j′ → (r ≡ r′) × (j ≡ j′)
-only-join-nearest xs ys js {r} {r′} p q =
+pub only-join-nearest : (xs ys : List ℤ) (delays js : List ℕ) {r r′ : Joined} {j j′ : List ℕ} → Joining xs ys delays js r j → Joining xs ys delays js r′ j′ → (r ≡ r′) × (j ≡ j′)
+only-join-nearest xs ys delays js {r} {r′} p q =
     let e : r ≡ r′ = p .answers ∙ sym (q .answers) in
-    (e, p .writes ∙ ap (λ (a : Joined). front (ifOrder a (orderAt xs ys)) js) e ∙ sym (q .writes))
+    (e, p .writes ∙ ap (λ (a : Joined). front (ifOrder a (orderAt xs ys delays)) js) e ∙ sym (q .writes))
 
-pub only-embed-nearest : (xs ys : List ℤ) (js : List ℕ) (us vs : List ℤ) (ws : List ℕ) {r r′ : Embedded} {j j′ : List ℕ} {u u′ v v′ : List ℤ} {w w′ : List ℕ}
-    → Embedding xs ys js us vs ws r j u v w → Embedding xs ys js us vs ws r′ j′ u′ v′ w′ → Same r r′ u u′ v v′ w w′ × (j ≡ j′)
-only-embed-nearest xs ys js us vs ws {r} {r′} p q =
+pub only-embed-nearest : (xs ys : List ℤ) (delays js : List ℕ) (us vs : List ℤ) (ws : List ℕ) {r r′ : Embedded} {j j′ : List ℕ} {u u′ v v′ : List ℤ} {w w′ : List ℕ}
+    → Embedding xs ys delays js us vs ws r j u v w → Embedding xs ys delays js us vs ws r′ j′ u′ v′ w′ → Same r r′ u u′ v v′ w w′ × (j ≡ j′)
+only-embed-nearest xs ys delays js us vs ws {r} {r′} p q =
     let e : r ≡ r′ = p .answers ∙ sym (q .answers) in
-    let s = sinksAt xs ys in
-    let o = orderAt xs ys in (
+    let s = sinksAt xs ys delays in
+    let o = orderAt xs ys delays in (
       record {
         said = e;
         us-same = p .writes-u ∙ ap (λ (a : Embedded). front (written a (placesU s o)) us) e ∙ sym (q .writes-u);

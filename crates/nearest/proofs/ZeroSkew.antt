@@ -13,7 +13,7 @@ use Rattle.plane.specs.Refusals.{andThen}
 use Rattle.embedding.specs.Permitted.{Permitted}
 use Rattle.embedding.specs.Described.{Level}
 use Rattle.embedding.specs.declared.embed.Embedded.the-variants.{Tree}
-use Rattle.embedding.proofs.Accepted.{both-pass}
+use Rattle.plane.proofs.Checks.{both-pass}
 use Rattle.embedding.proofs.ZeroSkew.{accepted-level}
 use Rattle.nearest.specs.Calls.{orderAt, checkNearest, treeAnswer, Embedding}
 use Rattle.nearest.proofs.Passing.{ready, sinks-fine}
@@ -24,19 +24,19 @@ after-tree : (c : Checked) (m t : ℕ) → Tree t ≡ treeAfter c m → (c ≡ F
 after-tree Fine m t q = (refl, cc)
 after-tree (Refused r) m t q = let z : _≡_ {A = ℕ} 0 1 = cc in let b : ⊥ = omega arith in absurd b
 
-module _ {xs ys : List ℤ} {js : List ℕ} {us vs : List ℤ} {ws : List ℕ} {t : ℕ} {js′ : List ℕ} {us′ vs′ : List ℤ} {ws′ : List ℕ} where
-  pub as-embed : Embedding xs ys js us vs ws (Tree t) js′ us′ vs′ ws′ → Permitted xs ys (orderAt xs ys) us vs ws (Tree t) us′ vs′ ws′
+module _ {xs ys : List ℤ} {delays js : List ℕ} {us vs : List ℤ} {ws : List ℕ} {t : ℕ} {js′ : List ℕ} {us′ vs′ : List ℤ} {ws′ : List ℕ} where
+  pub as-embed : Embedding xs ys delays js us vs ws (Tree t) js′ us′ vs′ ws′ → Permitted xs ys delays (orderAt xs ys delays) us vs ws (Tree t) us′ vs′ ws′
   unfolding treeAnswer answer checkOrder
   as-embed p =
       let rooms = checkRoom (2 * length xs - 1) (length us) (length vs) (length ws) in
-      let (a, q) = after-tree (andThen (checkNearest xs ys (length js)) rooms) (total (sinksAt xs ys) (orderAt xs ys)) t (p .answers) in
-      let (b, f) = both-pass (checkNearest xs ys (length js)) rooms a in
+      let (a, q) = after-tree (andThen (checkNearest xs ys delays (length js)) rooms) (total (sinksAt xs ys delays) (orderAt xs ys delays)) t (p .answers) in
+      let (b, f) = both-pass (checkNearest xs ys delays (length js)) rooms a in
       record {
-        answers = rw (sinks-fine xs ys (length js) b, order-accepted (sinksAt xs ys) (length xs) (ready xs ys js b .some), f) (ap Tree q);
+        answers = rw (sinks-fine xs ys delays (length js) b, order-accepted (sinksAt xs ys delays) (length xs) (ready xs ys delays js b .some), f) (ap Tree q);
         writes-u = p .writes-u;
         writes-v = p .writes-v;
         writes-w = p .writes-w;
       }
 
-  pub nearest-level : Embedding xs ys js us vs ws (Tree t) js′ us′ vs′ ws′ → Level (sinksAt xs ys) (orderAt xs ys) us′ vs′ ws′ t
-  nearest-level p = accepted-level xs ys (orderAt xs ys) us vs ws t us′ vs′ ws′ (as-embed p)
+  pub nearest-level : Embedding xs ys delays js us vs ws (Tree t) js′ us′ vs′ ws′ → Level (sinksAt xs ys delays) (orderAt xs ys delays) us′ vs′ ws′ t
+  nearest-level p = accepted-level xs ys delays (orderAt xs ys delays) us vs ws t us′ vs′ ws′ (as-embed p)

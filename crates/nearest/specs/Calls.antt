@@ -17,13 +17,13 @@ use Rattle.nearest.specs.declared.order.Joined.{Joined}
 use Rattle.nearest.specs.declared.order.Joined.the-variants.{Order, NoOrder}
 use Rattle.nearest.specs.Nearest.{order}
 
--- the joining order of the sinks that two lists give
-abbrev pub orderAt : List ℤ → List ℤ → List ℕ
-orderAt xs ys = order (sinksAt xs ys) (length xs)
+-- the joining order of the sinks that three lists give
+abbrev pub orderAt : List ℤ → List ℤ → List ℕ → List ℕ
+orderAt xs ys delays = order (sinksAt xs ys delays) (length xs)
 
--- ---- joining: refusals 1 to 4, then 7, where the lent buffer has room for so many node numbers
-unfoldable pub checkNearest : List ℤ → List ℤ → ℕ → Checked
-checkNearest xs ys room = andThen (checkSinks 512 xs ys) (refuseIf (ltb room (2 * (length xs - 1))) Room Fine)
+-- ---- joining: refusals 1 to 4 and 15, then 7, where the lent buffer has room for so many node numbers
+unfoldable pub checkNearest : List ℤ → List ℤ → List ℕ → ℕ → Checked
+checkNearest xs ys delays room = andThen (checkSinks 512 xs ys delays) (refuseIf (ltb room (2 * (length xs - 1))) Room Fine)
 
 abbrev pub orderAfter : Checked → Joined
 orderAfter Fine = Order
@@ -35,19 +35,19 @@ ifOrder Order l = l
 ifOrder (NoOrder r) l = []
 
 -- the sinks, the buffer before, the answer, the buffer after
-pub record Joining (xs ys : List ℤ) (js : List ℕ) (said : Joined) (js′ : List ℕ) : Type 0 where
-  pub answers : said ≡ orderAfter (checkNearest xs ys (length js))
-  pub writes : js′ ≡ front (ifOrder said (orderAt xs ys)) js
+pub record Joining (xs ys : List ℤ) (delays js : List ℕ) (said : Joined) (js′ : List ℕ) : Type 0 where
+  pub answers : said ≡ orderAfter (checkNearest xs ys delays (length js))
+  pub writes : js′ ≡ front (ifOrder said (orderAt xs ys delays)) js
 
--- ---- joining and embedding: refusals 1 to 4, then 7 over the four buffers; else the total
-unfoldable pub treeAnswer : List ℤ → List ℤ → ℕ → ℕ → ℕ → ℕ → Embedded
-treeAnswer xs ys rj ru rv rw =
-    treeAfter (andThen (checkNearest xs ys rj) (checkRoom (2 * length xs - 1) ru rv rw)) (total (sinksAt xs ys) (orderAt xs ys))
+-- ---- joining and embedding: refusals 1 to 4 and 15, then 7 over the four buffers; else the total
+unfoldable pub treeAnswer : List ℤ → List ℤ → List ℕ → ℕ → ℕ → ℕ → ℕ → Embedded
+treeAnswer xs ys delays rj ru rv rw =
+    treeAfter (andThen (checkNearest xs ys delays rj) (checkRoom (2 * length xs - 1) ru rv rw)) (total (sinksAt xs ys delays) (orderAt xs ys delays))
 
 -- the sinks, the four buffers before, the answer, the four buffers after
-pub record Embedding (xs ys : List ℤ) (js : List ℕ) (us vs : List ℤ) (ws : List ℕ) (said : Embedded) (js′ : List ℕ) (us′ vs′ : List ℤ) (ws′ : List ℕ) : Type 0 where
-  pub answers : said ≡ treeAnswer xs ys (length js) (length us) (length vs) (length ws)
-  pub writes-j : js′ ≡ front (written said (orderAt xs ys)) js
-  pub writes-u : us′ ≡ front (written said (placesU (sinksAt xs ys) (orderAt xs ys))) us
-  pub writes-v : vs′ ≡ front (written said (placesV (sinksAt xs ys) (orderAt xs ys))) vs
-  pub writes-w : ws′ ≡ front (written said (wires (sinksAt xs ys) (orderAt xs ys))) ws
+pub record Embedding (xs ys : List ℤ) (delays js : List ℕ) (us vs : List ℤ) (ws : List ℕ) (said : Embedded) (js′ : List ℕ) (us′ vs′ : List ℤ) (ws′ : List ℕ) : Type 0 where
+  pub answers : said ≡ treeAnswer xs ys delays (length js) (length us) (length vs) (length ws)
+  pub writes-j : js′ ≡ front (written said (orderAt xs ys delays)) js
+  pub writes-u : us′ ≡ front (written said (placesU (sinksAt xs ys delays) (orderAt xs ys delays))) us
+  pub writes-v : vs′ ≡ front (written said (placesV (sinksAt xs ys delays) (orderAt xs ys delays))) vs
+  pub writes-w : ws′ ≡ front (written said (wires (sinksAt xs ys delays) (orderAt xs ys delays))) ws

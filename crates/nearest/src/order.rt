@@ -57,15 +57,15 @@ fn round(bs: &mut [u32], live: &mut [usize], rows: &mut [u32], n: usize, i: usiz
 }
 
 // The joining order of sinks that were checked, where the buffer has room for it.
-pub fn order_sound(xs: &[i32], ys: &[i32], js: &mut [u16])
-    requires { ⌜ CanJoin (now xs) (now ys) (now js) ⌝ }
-    ensures { λ _. ⌜ now (js .exit) ≡ front (orderAt (now (xs .entry)) (now (ys .entry))) (now (js .entry)) ⌝ }
+pub fn order_sound(xs: &[i32], ys: &[i32], delays: &[u32], js: &mut [u16])
+    requires { ⌜ CanJoin (now xs) (now ys) (now delays) (now js) ⌝ }
+    ensures { λ _. ⌜ now (js .exit) ≡ front (orderAt (now (xs .entry)) (now (ys .entry)) (now (delays .entry))) (now (js .entry)) ⌝ }
 {
     let n = xs.len();
     let mut bs = [0u32; 4092];
     let mut live = [0usize; 512];
     let mut rows = [0u32; 3584];
-    table::put_sinks(xs, ys, &mut bs);
+    table::put_sinks(xs, ys, delays, &mut bs);
     live::begin(&mut live[..n]);
     keep::begin(&bs, &mut rows, n);
     let mut i = 0;
@@ -75,11 +75,11 @@ pub fn order_sound(xs: &[i32], ys: &[i32], js: &mut [u16])
     }
 }
 
-// Refusals 1 to 4, and 7 where the buffer of joins is too short.
-pub fn check_nearest(xs: &[i32], ys: &[i32], room: usize) -> Checked
-    ensures { λ r. ⌜ r ≡ checkNearest (now (xs .entry)) (now (ys .entry)) room ⌝ }
+// Refusals 1 to 4 and 15, and 7 where the buffer of joins is too short.
+pub fn check_nearest(xs: &[i32], ys: &[i32], delays: &[u32], room: usize) -> Checked
+    ensures { λ r. ⌜ r ≡ checkNearest (now (xs .entry)) (now (ys .entry)) (now (delays .entry)) room ⌝ }
 {
-    let said = sinks::check_sinks(xs, ys, 512);
+    let said = sinks::check_sinks(xs, ys, delays, 512);
     if let Checked::Refused(r) = said {
         return Checked::Refused(r);
     }
@@ -89,14 +89,14 @@ pub fn check_nearest(xs: &[i32], ys: &[i32], room: usize) -> Checked
     Checked::Fine
 }
 
-// Refusals 1 to 4 and 7, else the joining order in the lent buffer.
-pub fn join_nearest(xs: &[i32], ys: &[i32], js: &mut [u16]) -> Joined
-    ensures { λ r. ⌜ Joining (now (xs .entry)) (now (ys .entry)) (now (js .entry)) r (now (js .exit)) ⌝ }
+// Refusals 1 to 4, 15 and 7, else the joining order in the lent buffer.
+pub fn join_nearest(xs: &[i32], ys: &[i32], delays: &[u32], js: &mut [u16]) -> Joined
+    ensures { λ r. ⌜ Joining (now (xs .entry)) (now (ys .entry)) (now (delays .entry)) (now (js .entry)) r (now (js .exit)) ⌝ }
 {
-    let said = check_nearest(xs, ys, js.len());
+    let said = check_nearest(xs, ys, delays, js.len());
     if let Checked::Refused(r) = said {
         return Joined::NoOrder(r);
     }
-    order_sound(xs, ys, js);
+    order_sound(xs, ys, delays, js);
     Joined::Order
 }

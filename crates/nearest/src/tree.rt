@@ -11,31 +11,33 @@ use plane::refusal::Checked;
 pub fn tree_sound(
     xs: &[i32],
     ys: &[i32],
+    delays: &[u32],
     js: &mut [u16],
     us: &mut [i32],
     vs: &mut [i32],
     ws: &mut [u32],
 ) -> u32
-    requires { ⌜ CanBuild (now xs) (now ys) (now js) (now us) (now vs) (now ws) ⌝ }
-    ensures { λ r. ⌜ Trees (now (xs .entry)) (now (ys .entry)) (now (js .entry)) (now (us .entry)) (now (vs .entry)) (now (ws .entry)) r (now (js .exit)) (now (us .exit)) (now (vs .exit)) (now (ws .exit)) ⌝ }
+    requires { ⌜ CanBuild (now xs) (now ys) (now delays) (now js) (now us) (now vs) (now ws) ⌝ }
+    ensures { λ r. ⌜ Trees (now (xs .entry)) (now (ys .entry)) (now (delays .entry)) (now (js .entry)) (now (us .entry)) (now (vs .entry)) (now (ws .entry)) r (now (js .exit)) (now (us .exit)) (now (vs .exit)) (now (ws .exit)) ⌝ }
 {
-    order::order_sound(xs, ys, js);
+    order::order_sound(xs, ys, delays, js);
     let k = 2 * (xs.len() - 1);
-    embed::embed_sound(xs, ys, &js[0..k], us, vs, ws)
+    embed::embed_sound(xs, ys, delays, &js[0..k], us, vs, ws)
 }
 
-// Refusals 1 to 4 and 7, else the total, with the joins, the places and the wires in the lent buffers.
+// Refusals 1 to 4, 15 and 7, else the total, with the joins, the places and the wires in the lent buffers.
 pub fn embed_nearest(
     xs: &[i32],
     ys: &[i32],
+    delays: &[u32],
     js: &mut [u16],
     us: &mut [i32],
     vs: &mut [i32],
     ws: &mut [u32],
 ) -> Embedded
-    ensures { λ r. ⌜ Embedding (now (xs .entry)) (now (ys .entry)) (now (js .entry)) (now (us .entry)) (now (vs .entry)) (now (ws .entry)) r (now (js .exit)) (now (us .exit)) (now (vs .exit)) (now (ws .exit)) ⌝ }
+    ensures { λ r. ⌜ Embedding (now (xs .entry)) (now (ys .entry)) (now (delays .entry)) (now (js .entry)) (now (us .entry)) (now (vs .entry)) (now (ws .entry)) r (now (js .exit)) (now (us .exit)) (now (vs .exit)) (now (ws .exit)) ⌝ }
 {
-    let said = order::check_nearest(xs, ys, js.len());
+    let said = order::check_nearest(xs, ys, delays, js.len());
     if let Checked::Refused(r) = said {
         return Embedded::NoTree(r);
     }
@@ -43,5 +45,5 @@ pub fn embed_nearest(
     if let Checked::Refused(r) = rooms {
         return Embedded::NoTree(r);
     }
-    Embedded::Tree(tree_sound(xs, ys, js, us, vs, ws))
+    Embedded::Tree(tree_sound(xs, ys, delays, js, us, vs, ws))
 }

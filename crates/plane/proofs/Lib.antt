@@ -7,3 +7,4 @@ pub mod Checks
 pub mod Unlifted
 pub mod Outcomes
 pub mod InTurn
+pub mod Spread

@@ -31,12 +31,12 @@ module _ (c : ℕ) where
       (λ e. lift-of (smaller a b) (min m n) (omega (arith, lifts a m p, lifts b n q, ap up e, ap down e, smaller-l a b)))
       (smaller-one a b)
 
-  -- no delay moves nothing
-  pub lift-plus-none : (z : ℤ) (n : ℕ) → Lifts c z n → Lifts c (z +ℤ pos 0) n
-  lift-plus-none z n p = lift-of (z +ℤ pos 0) n (omega (arith, lifts z n p, add-is z (pos 0)))
+  -- to either side by a delay
+  pub lift-plus : (z : ℤ) (n w : ℕ) → Lifts c z n → Lifts c (z +ℤ pos w) (n + w)
+  lift-plus z n w p = lift-of (z +ℤ pos w) (n + w) (omega (arith, lifts z n p, add-is z (pos w)))
 
-  pub lift-minus-none : (z : ℤ) (n : ℕ) → Lifts c z n → Lifts c (z -ℤ pos 0) n
-  lift-minus-none z n p = lift-of (z -ℤ pos 0) n (omega (arith, lifts z n p, minus-is z (pos 0)))
+  pub lift-minus : (z : ℤ) (n w : ℕ) → w ≤ n → Lifts c z n → Lifts c (z -ℤ pos w) (n - w)
+  lift-minus z n w h p = lift-of (z -ℤ pos w) (n - w) (omega (arith, lifts z n p, minus-is z (pos w)))
 
   -- how far two numbers are apart
   pub lift-apart : (a b : ℤ) (m n : ℕ) → Lifts c a m → Lifts c b n → natAbs (a -ℤ b) ≡ gap m n

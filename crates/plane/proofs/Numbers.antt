@@ -5,14 +5,14 @@ use Prim.Native.Nat.{ℕ, suc, _+_, _-_, _≤_, _<_, _^_}
 use native.Mathlib.Omega.{arith}
 use lib.IntN.{ℤ, pos, negsuc, subℕ, _+ℤ_}
 use lib.Signed.{mag}
-use lib.Dec.{T, leb, leb→le, ltb, ltb→lt, nltb→le, eqb}
+use lib.Dec.{T, leb, leb→le, le→leb, ltb, ltb→lt, nltb→le, eqb}
 use borrow.Author.Tests.{le-ltb, eq-eqb, ne-eqb, eqb-true, eqb-false}
 use mir.Val.{SFits, bits, hbits, ofZ, toZ}
 use mir.Facts.{toZ-ofZ}
 use mir.Syntax.{Width, w32, w64}
 use Rattle.lists.proofs.Tests.{choice}
 use Rattle.plane.specs.declared.measure.Doubled.{Doubled}
-use Rattle.plane.specs.Range.{inRange, equal}
+use Rattle.plane.specs.Range.{Central, inRange, equal}
 use Rattle.plane.specs.Measures.{lift, unlifted, lowered, raised}
 
 abbrev pub doubled : ℕ → Doubled
@@ -23,16 +23,29 @@ and-left : (a b : Bool) → T (a && b) → T a
 and-left true b t = tt
 and-left false b t = absurd t
 
-below : (n : ℕ) → T (inRange (negsuc n)) → n ≤ 999999
-below n t = leb→le n 999999 (and-left (leb n 999999) true t)
+and-in : (a b : Bool) → T a → T b → T (a && b)
+and-in true b p q = q
+and-in false b p q = absurd p
 
-pub lifted : (x : ℤ) → T (inRange x) → x +ℤ pos 32000000 ≡ pos (lift x)
+below : (n : ℕ) → Central (negsuc n) → n ≤ 3999999
+below n t = leb→le n 3999999 (and-left (leb n 3999999) true t)
+
+pub lifted : (x : ℤ) → Central x → x +ℤ pos 32000000 ≡ pos (lift x)
 lifted (pos n) t = refl
 lifted (negsuc n) t = let h = below n t in rw (le-ltb 32000000 (suc n) (omega arith))
 
-pub lift-range : (x : ℤ) → T (inRange x) → (31000000 ≤ lift x) × (lift x ≤ 33000000)
-lift-range (pos n) t = let h : n ≤ 1000000 = leb→le n 1000000 t in (omega arith, omega arith)
+pub lift-range : (x : ℤ) → Central x → (28000000 ≤ lift x) × (lift x ≤ 36000000)
+lift-range (pos n) t = let h : n ≤ 4000000 = leb→le n 4000000 t in (omega arith, omega arith)
 lift-range (negsuc n) t = let h = below n t in (omega arith, omega arith)
+
+-- what may be the coordinate of a sink is, and nearer to 0
+pub nearer : (x : ℤ) → T (inRange x) → Central x
+nearer (pos n) t = le→leb n 4000000 (let h : n ≤ 1000000 = leb→le n 1000000 t in omega arith)
+nearer (negsuc n) t = and-in (leb n 3999999) true (le→leb n 3999999 (let h : n ≤ 999999 = leb→le n 999999 (and-left (leb n 999999) true t) in omega arith)) tt
+
+pub lift-inner : (x : ℤ) → T (inRange x) → (31000000 ≤ lift x) × (lift x ≤ 33000000)
+lift-inner (pos n) t = let h : n ≤ 1000000 = leb→le n 1000000 t in (omega arith, omega arith)
+lift-inner (negsuc n) t = let h : n ≤ 999999 = leb→le n 999999 (and-left (leb n 999999) true t) in (omega arith, omega arith)
 
 -- ---- what fits a signed width
 pub pos-fits : (n : ℕ) → n ≤ 1000000000 → SFits w32 (pos n)

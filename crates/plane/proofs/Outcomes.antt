@@ -18,11 +18,11 @@ seen-once (Of a) (NoBox r) e = let z : _≡_ {A = ℕ} 0 1 = cc in let b : ⊥ =
 seen-once (NoBox r) (Of b) e = let z : _≡_ {A = ℕ} 0 1 = cc in let b : ⊥ = omega arith in absurd b
 seen-once (NoBox r) (NoBox t) e = cc
 
-pub only-box-of : (xs ys : List ℤ) {r r′ : Boxed} → seen r ≡ boxAnswer xs ys → seen r′ ≡ boxAnswer xs ys → r ≡ r′
-only-box-of xs ys {r} {r′} p q = seen-once r r′ (p ∙ sym q)
+pub only-box-of : (xs ys : List ℤ) (delays : List ℕ) {r r′ : Boxed} → seen r ≡ boxAnswer xs ys delays → seen r′ ≡ boxAnswer xs ys delays → r ≡ r′
+only-box-of xs ys delays {r} {r′} p q = seen-once r r′ (p ∙ sym q)
 
-pub only-widened : (b : Box) (x y : ℤ) {r r′ : Widening} → Widens (bounds b) x y (bounds (r .held)) (r .said) → Widens (bounds b) x y (bounds (r′ .held)) (r′ .said) → r ≡ r′
-only-widened b x y {r} {r′} p q =
+pub only-widened : (b : Box) (x y : ℤ) (w : ℕ) {r r′ : Widening} → Widens (bounds b) x y w (bounds (r .held)) (r .said) → Widens (bounds b) x y w (bounds (r′ .held)) (r′ .said) → r ≡ r′
+only-widened b x y w {r} {r′} p q =
     let e = bounds-once (r .held) (r′ .held) (p .holds ∙ sym (q .holds)) in
     let f = p .says ∙ sym (q .says) in
     λ k. record { held = e k; said = f k }

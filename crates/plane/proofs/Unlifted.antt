@@ -1,16 +1,15 @@
 -- A held box by its numbers with sign: widening it is document 01's, and no two boxes have the same.
 use mathlib.Core.Path.{_≡_, ap}
 use Prim.Native.Nat.{ℕ, _+_, _-_, min, max}
-use lib.Dec.{T}
-use lib.IntN.{ℤ, subℕ, _+ℤ_, _-ℤ_}
+use lib.IntN.{ℤ, pos, subℕ, _+ℤ_, _-ℤ_}
 use Rattle.zero_skew.specs.Box.{Bounds, larger, smaller, hull, across}
 use Rattle.plane.specs.declared.boxes.Box.{Box}
-use Rattle.plane.specs.Range.{inRange}
+use Rattle.plane.specs.Range.{Central, Brief}
 use Rattle.plane.specs.Measures.{Lifts, lift}
 use Rattle.plane.specs.Boxes.{sinkBox, hullOf, diamOf}
 use Rattle.plane.specs.Bounds.{bounds, sinkBounds}
 use Rattle.plane.proofs.Lifted.{lift-larger, lift-smaller, lift-apart, unlift, lifts-back, unlift-once}
-use Rattle.plane.proofs.Covering.{sum-lifts, minus-lifts}
+use Rattle.plane.proofs.Covering.{least-u-lifts, most-u-lifts, least-v-lifts, most-v-lifts}
 
 module _ (c : ℕ) where
   least-is : (n m : ℕ) (z : ℤ) → Lifts c z m → subℕ (min n m) c ≡ smaller (subℕ n c) z
@@ -20,12 +19,12 @@ module _ (c : ℕ) where
   most-is n m z p = unlift c (larger (subℕ n c) z) (max n m) (lift-larger c (subℕ n c) z n m (lifts-back c n) p)
 
 -- a box with one more sink
-pub hull-sink : (b : Box) (x y : ℤ) → T (inRange x) → T (inRange y) → bounds (hullOf b (sinkBox x y)) ≡ hull (bounds b) (sinkBounds x y)
-hull-sink b x y p q = λ k. record {
-  least-u = least-is 64000000 (b .lu .0) (lift x + lift y) (x +ℤ y) (sum-lifts x y p q) k;
-  greatest-u = most-is 64000000 (b .hu .0) (lift x + lift y) (x +ℤ y) (sum-lifts x y p q) k;
-  least-v = least-is 64000000 (b .lv .0) ((64000000 + lift x) - lift y) (x -ℤ y) (minus-lifts x y p q) k;
-  greatest-v = most-is 64000000 (b .hv .0) ((64000000 + lift x) - lift y) (x -ℤ y) (minus-lifts x y p q) k;
+pub hull-sink : (b : Box) (x y : ℤ) (w : ℕ) → Central x → Central y → Brief w → bounds (hullOf b (sinkBox x y w)) ≡ hull (bounds b) (sinkBounds x y w)
+hull-sink b x y w p q h = λ k. record {
+  least-u = least-is 64000000 (b .lu .0) (lift x + lift y - w) ((x +ℤ y) -ℤ pos w) (least-u-lifts x y w p q h) k;
+  greatest-u = most-is 64000000 (b .hu .0) (lift x + lift y + w) ((x +ℤ y) +ℤ pos w) (most-u-lifts x y w p q h) k;
+  least-v = least-is 64000000 (b .lv .0) ((64000000 + lift x) - lift y - w) ((x -ℤ y) -ℤ pos w) (least-v-lifts x y w p q h) k;
+  greatest-v = most-is 64000000 (b .hv .0) ((64000000 + lift x) - lift y + w) ((x -ℤ y) +ℤ pos w) (most-v-lifts x y w p q h) k;
 }
 
 -- the diameter of any box

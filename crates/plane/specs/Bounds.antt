@@ -12,10 +12,10 @@ use Rattle.plane.specs.declared.bounds.Boxed.{Boxed}
 use Rattle.plane.specs.declared.bounds.Boxed.the-variants.{Of, NoBox}
 use Rattle.plane.specs.declared.bounds.Extent.{Extent}
 use Rattle.plane.specs.declared.refusal.Refusal.{Refusal}
-use Rattle.plane.specs.declared.refusal.Refusal.the-variants.{Outside}
+use Rattle.plane.specs.declared.refusal.Refusal.the-variants.{Outside, Late}
 use Rattle.plane.specs.declared.refusal.Checked.{Checked}
 use Rattle.plane.specs.declared.refusal.Checked.the-variants.{Fine, Refused}
-use Rattle.plane.specs.Range.{inRange}
+use Rattle.plane.specs.Range.{inRange, late}
 use Rattle.plane.specs.Refusals.{refuseIf}
 use Rattle.plane.specs.Sinks.{sinksAt, checkSinks}
 use Rattle.plane.specs.Measures.{unlifted}
@@ -42,26 +42,32 @@ after Fine a = a
 after (Refused r) a = refused r
 
 -- "a box worked out from all sinks"
-unfoldable pub boxAnswer : List ℤ → List ℤ → Answer
-boxAnswer xs ys = after (checkSinks 512 xs ys) (box (boxOf (sinksAt xs ys) (upTo (length xs))))
+unfoldable pub boxAnswer : List ℤ → List ℤ → List ℕ → Answer
+boxAnswer xs ys delays = after (checkSinks 512 xs ys delays) (box (boxOf (sinksAt xs ys delays) (upTo (length xs))))
 
--- the box of one sink at x and y
-abbrev pub sinkBounds : ℤ → ℤ → Bounds
-sinkBounds x y = record { least-u = x +ℤ y; greatest-u = x +ℤ y; least-v = x -ℤ y; greatest-v = x -ℤ y }
+-- the box of one sink at x and y with the delay w: "from u - w to u + w and v - w to v + w"
+abbrev pub sinkBounds : ℤ → ℤ → ℕ → Bounds
+sinkBounds x y w =
+    record {
+      least-u = (x +ℤ y) -ℤ pos w;
+      greatest-u = (x +ℤ y) +ℤ pos w;
+      least-v = (x -ℤ y) -ℤ pos w;
+      greatest-v = (x -ℤ y) +ℤ pos w;
+    }
 
--- "a box already held is widened by one more sink; a sink outside its range is refused with 4, place 0, and the held box stays as it is"
-abbrev pub widenedBy : Bounds → ℤ → ℤ → Bounds
-widenedBy b x y = cond (inRange x && inRange y) (hull b (sinkBounds x y)) b
+-- "a box already held is widened by one more sink; a sink outside its range is refused with 4, place 0, and the held box stays as it is"; then 15, place 0, for its delay
+abbrev pub verdict : ℤ → ℤ → ℕ → Checked
+verdict x y w = refuseIf (not (inRange x && inRange y)) (Outside 0) (refuseIf (late w) (Late 0) Fine)
 
-abbrev pub verdict : ℤ → ℤ → Checked
-verdict x y = refuseIf (not (inRange x && inRange y)) (Outside 0) Fine
+abbrev pub widenedBy : Bounds → ℤ → ℤ → ℕ → Bounds
+widenedBy b x y w = cond (inRange x && inRange y) (cond (late w) b (hull b (sinkBounds x y w))) b
 
 -- the held box and the sink, then the box after it and what is said
-pub record Widens (b : Bounds) (x y : ℤ) (held : Bounds) (said : Checked) : Type 0 where
-  pub holds : held ≡ widenedBy b x y
-  pub says : said ≡ verdict x y
+pub record Widens (b : Bounds) (x y : ℤ) (w : ℕ) (held : Bounds) (said : Checked) : Type 0 where
+  pub holds : held ≡ widenedBy b x y w
+  pub says : said ≡ verdict x y w
 
 -- the box of sink 0, widened by sinks 1 to k in turn
-unfoldable pub inTurn : List ℤ → List ℤ → ℕ → Bounds
-inTurn xs ys zero = sinkBounds (getD xs 0 (pos 0)) (getD ys 0 (pos 0))
-inTurn xs ys (suc k) = widenedBy (inTurn xs ys k) (getD xs (suc k) (pos 0)) (getD ys (suc k) (pos 0))
+unfoldable pub inTurn : List ℤ → List ℤ → List ℕ → ℕ → Bounds
+inTurn xs ys delays zero = sinkBounds (getD xs 0 (pos 0)) (getD ys 0 (pos 0)) (getD delays 0 0)
+inTurn xs ys delays (suc k) = widenedBy (inTurn xs ys delays k) (getD xs (suc k) (pos 0)) (getD ys (suc k) (pos 0)) (getD delays (suc k) 0)

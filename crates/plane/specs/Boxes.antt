@@ -5,14 +5,15 @@ use lib.IntN.{ℤ}
 use lib.ListN.{getD}
 use Rattle.plane.specs.declared.measure.Tilted.{Tilted}
 use Rattle.plane.specs.declared.boxes.Box.{Box}
-use Rattle.plane.specs.Measures.{keptAs, gridOf, uOf, vOf, leastOf, greatestOf, gap}
+use Rattle.plane.specs.Measures.{keptAs, gridOf, uOf, vOf, lessOf, moreOf, leastOf, greatestOf, gap}
 
-abbrev pub pointBox : Tilted → Tilted → Box
-pointBox u v = record { lu = u; hu = u; lv = v; hv = v }
+-- the box that reaches w to each side of u and v
+abbrev pub aroundBox : Tilted → Tilted → ℕ → Box
+aroundBox u v w = record { lu = lessOf u w; hu = moreOf u w; lv = lessOf v w; hv = moreOf v w }
 
 -- the box of one sink
-abbrev pub sinkBox : ℤ → ℤ → Box
-sinkBox x y = pointBox (uOf (gridOf x) (gridOf y)) (vOf (gridOf x) (gridOf y))
+abbrev pub sinkBox : ℤ → ℤ → ℕ → Box
+sinkBox x y w = aroundBox (uOf (gridOf x) (gridOf y)) (vOf (gridOf x) (gridOf y)) w
 
 -- the box of two sets together
 abbrev pub hullOf : Box → Box → Box
@@ -39,11 +40,11 @@ numbersOf b = b .lu .0 ∷ b .hu .0 ∷ b .lv .0 ∷ b .hv .0 ∷ []
 abbrev pub boxIn : List ℕ → Box
 boxIn n = record { lu = keptAs (getD n 0 0); hu = keptAs (getD n 1 0); lv = keptAs (getD n 2 0); hv = keptAs (getD n 3 0) }
 
--- a box that sinks in range can have
+-- a box that sinks can have of which the code's numbers hold all: its ends are within 14,000,000 of 0
 pub record Fair (b : Box) : Type 0 where
-  pub u-low : 61000000 ≤ b .lu .0
+  pub u-low : 50000000 ≤ b .lu .0
   pub u-up : b .lu .0 ≤ b .hu .0
-  pub u-high : b .hu .0 ≤ 67000000
-  pub v-low : 61000000 ≤ b .lv .0
+  pub u-high : b .hu .0 ≤ 78000000
+  pub v-low : 50000000 ≤ b .lv .0
   pub v-up : b .lv .0 ≤ b .hv .0
-  pub v-high : b .hv .0 ≤ 67000000
+  pub v-high : b .hv .0 ≤ 78000000

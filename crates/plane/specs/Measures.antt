@@ -40,6 +40,13 @@ uOf x y = record { 0 = x .0 + y .0 }
 abbrev pub vOf : Grid → Grid → Tilted
 vOf x y = record { 0 = (64000000 + x .0) - y .0 }
 
+-- a tilted coordinate, w lower and w higher
+abbrev pub lessOf : Tilted → ℕ → Tilted
+lessOf a w = record { 0 = a .0 - w }
+
+abbrev pub moreOf : Tilted → ℕ → Tilted
+moreOf a w = record { 0 = a .0 + w }
+
 abbrev pub leastOf : Tilted → Tilted → Tilted
 leastOf a b = record { 0 = min (a .0) (b .0) }
 

@@ -1,8 +1,8 @@
 // The box of four numbers, by value.
 ghost use mathlib.Core.Path.{_≡_};
-ghost use lib.Dec.{T};
-ghost use Rattle.plane.specs.Range.{inRange};
-ghost use Rattle.plane.specs.Boxes.{pointBox, sinkBox, hullOf, diamOf, InOrder, numbersOf, boxIn};
+ghost use Prim.Native.Nat.{_≤_};
+ghost use Rattle.plane.specs.Range.{Central, Brief};
+ghost use Rattle.plane.specs.Boxes.{aroundBox, sinkBox, hullOf, diamOf, InOrder, numbersOf, boxIn};
 use crate::measure;
 use crate::measure::Tilted;
 
@@ -14,25 +14,27 @@ pub struct Box {
     pub hv: Tilted,
 }
 
-pub fn point(u: Tilted, v: Tilted) -> Box
-    ensures { λ r. ⌜ r ≡ pointBox u v ⌝ }
+// The box that reaches w to each side of u and v.
+fn around(u: Tilted, v: Tilted, w: u32) -> Box
+    requires { ⌜ (u .0 ≤ 72000000) × (v .0 ≤ 72000000) × Brief w × (w ≤ u .0) × (w ≤ v .0) ⌝ }
+    ensures { λ r. ⌜ r ≡ aroundBox u v w ⌝ }
 {
     Box {
-        lu: u,
-        hu: u,
-        lv: v,
-        hv: v,
+        lu: measure::less(u, w),
+        hu: measure::more(u, w),
+        lv: measure::less(v, w),
+        hv: measure::more(v, w),
     }
 }
 
 // The box of one sink.
-pub fn sink_box(x: i32, y: i32) -> Box
-    requires { ⌜ T (inRange x) × T (inRange y) ⌝ }
-    ensures { λ r. ⌜ r ≡ sinkBox x y ⌝ }
+pub fn sink_box(x: i32, y: i32, w: u32) -> Box
+    requires { ⌜ Central x × Central y × Brief w ⌝ }
+    ensures { λ r. ⌜ r ≡ sinkBox x y w ⌝ }
 {
     let gx = measure::on_grid(x);
     let gy = measure::on_grid(y);
-    point(measure::tilted_u(gx, gy), measure::tilted_v(gx, gy))
+    around(measure::tilted_u(gx, gy), measure::tilted_v(gx, gy), w)
 }
 
 // The box of two sets together.

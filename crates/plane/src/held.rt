@@ -5,9 +5,9 @@ use crate::boxes::Box;
 use crate::refusal::Checked;
 
 // Thin over the box by value: callers that hold no reference use `bounds::widened`.
-pub fn widen(b: &mut Box, x: i32, y: i32) -> Checked
-    ensures { λ r. ⌜ Widens (bounds (now (b .entry))) x y (bounds (now (b .exit))) r ⌝ }
+pub fn widen(b: &mut Box, x: i32, y: i32, w: u32) -> Checked
+    ensures { λ r. ⌜ Widens (bounds (now (b .entry))) x y w (bounds (now (b .exit))) r ⌝ }
 {
-    *b = bounds::enlarged(*b, x, y);
-    bounds::verdict_on(x, y)
+    *b = bounds::enlarged(*b, x, y, w);
+    bounds::verdict_on(x, y, w)
 }

@@ -1,10 +1,9 @@
 // The three measures. Each is held as an unsigned number, counted from a far corner of the plane (the prover's arithmetic reads naturals),
 // and nothing outside this module sees which: a sum of two unlike ones does not compile.
 ghost use mathlib.Core.Path.{_≡_};
-ghost use Prim.Native.Nat.{_*_, _^_, _≤_, _<_};
-ghost use lib.Dec.{T};
-ghost use Rattle.plane.specs.Range.{inRange, equal};
-ghost use Rattle.plane.specs.Measures.{keptAs, gridOf, uOf, vOf, leastOf, greatestOf, gap, lowOf, highOf, lowerOf, higherOf, nearOf, lowered, raised, unlifted};
+ghost use Prim.Native.Nat.{_*_, _^_, _≤_, _<_, max};
+ghost use Rattle.plane.specs.Range.{inRange, late, Central, Brief, equal};
+ghost use Rattle.plane.specs.Measures.{keptAs, gridOf, uOf, vOf, lessOf, moreOf, leastOf, greatestOf, gap, lowOf, highOf, lowerOf, higherOf, nearOf, lowered, raised, unlifted};
 
 // A coordinate x or y, in grid units.
 pub struct Grid(u32);
@@ -15,11 +14,32 @@ pub struct Tilted(u32);
 // A coordinate U or V, in half grid units.
 pub struct Doubled(u32);
 
+// A length, wide enough to be added up.
+pub fn wide(x: u32) -> u64
+    ensures { λ r. ⌜ (r ≡ x) × (r < 2 ^ 32) ⌝ }
+{
+    x as u64
+}
+
+// The larger of two lengths.
+pub fn larger(x: u32, y: u32) -> u32
+    ensures { λ r. ⌜ r ≡ max x y ⌝ }
+{
+    if x < y { y } else { x }
+}
+
 // Whether x may be the coordinate of a sink.
 pub fn in_range(x: i32) -> bool
     ensures { λ r. ⌜ r ≡ inRange x ⌝ }
 {
     -1000000 <= x && x <= 1000000
+}
+
+// Whether no sink may have the delay w.
+pub fn is_late(w: u32) -> bool
+    ensures { λ r. ⌜ r ≡ late w ⌝ }
+{
+    1000000 < w
 }
 
 // Whether two numbers with sign are equal.
@@ -30,24 +50,39 @@ pub fn same(a: i32, b: i32) -> bool
 }
 
 pub fn on_grid(x: i32) -> Grid
-    requires { ⌜ T (inRange x) ⌝ }
+    requires { ⌜ Central x ⌝ }
     ensures { λ r. ⌜ r ≡ gridOf x ⌝ }
 {
     Grid((x + 32000000) as u32)
 }
 
 pub fn tilted_u(x: Grid, y: Grid) -> Tilted
-    requires { ⌜ (x .0 ≤ 33000000) × (y .0 ≤ 33000000) ⌝ }
+    requires { ⌜ (x .0 ≤ 36000000) × (y .0 ≤ 36000000) ⌝ }
     ensures { λ r. ⌜ r ≡ uOf x y ⌝ }
 {
     Tilted(x.0 + y.0)
 }
 
 pub fn tilted_v(x: Grid, y: Grid) -> Tilted
-    requires { ⌜ (x .0 ≤ 33000000) × (y .0 ≤ 33000000) ⌝ }
+    requires { ⌜ (x .0 ≤ 36000000) × (y .0 ≤ 36000000) ⌝ }
     ensures { λ r. ⌜ r ≡ vOf x y ⌝ }
 {
     Tilted(64000000 + x.0 - y.0)
+}
+
+// w lower, and w higher.
+pub fn less(a: Tilted, w: u32) -> Tilted
+    requires { ⌜ w ≤ a .0 ⌝ }
+    ensures { λ r. ⌜ r ≡ lessOf a w ⌝ }
+{
+    Tilted(a.0 - w)
+}
+
+pub fn more(a: Tilted, w: u32) -> Tilted
+    requires { ⌜ (a .0 ≤ 72000000) × Brief w ⌝ }
+    ensures { λ r. ⌜ r ≡ moreOf a w ⌝ }
+{
+    Tilted(a.0 + w)
 }
 
 pub fn least(a: Tilted, b: Tilted) -> Tilted
@@ -99,14 +134,14 @@ pub fn standing_for(n: u32) -> Tilted
 
 // The least and the greatest doubled coordinate of a segment.
 pub fn low_end(hi: Tilted, d: u32) -> Doubled
-    requires { ⌜ (hi .0 ≤ 67000000) × (d ≤ 2 * hi .0) ⌝ }
+    requires { ⌜ (hi .0 ≤ 78000000) × (d ≤ 2 * hi .0) ⌝ }
     ensures { λ r. ⌜ r ≡ lowOf hi d ⌝ }
 {
     Doubled(2 * hi.0 - d)
 }
 
 pub fn high_end(lo: Tilted, d: u32) -> Doubled
-    requires { ⌜ (lo .0 ≤ 67000000) × (d ≤ 6000000) ⌝ }
+    requires { ⌜ (lo .0 ≤ 78000000) × (d ≤ 28000000) ⌝ }
     ensures { λ r. ⌜ r ≡ highOf lo d ⌝ }
 {
     Doubled(2 * lo.0 + d)
@@ -134,7 +169,7 @@ pub fn nearest(lo: Doubled, hi: Doubled, p: Doubled) -> Doubled
 
 // A doubled coordinate, as a number with sign.
 pub fn whole(p: Doubled) -> i32
-    requires { ⌜ p .0 ≤ 140000000 ⌝ }
+    requires { ⌜ p .0 ≤ 184000000 ⌝ }
     ensures { λ r. ⌜ r ≡ lowered (p .0) ⌝ }
 {
     (p.0 as i32) - 128000000
@@ -142,7 +177,7 @@ pub fn whole(p: Doubled) -> i32
 
 // And back: the doubled coordinate that such a number stands for.
 pub fn lifted(p: i32) -> Doubled
-    requires { ⌜ (p ≡ lowered (raised p .0)) × (raised p .0 ≤ 140000000) ⌝ }
+    requires { ⌜ (p ≡ lowered (raised p .0)) × (raised p .0 ≤ 184000000) ⌝ }
     ensures { λ r. ⌜ r ≡ raised p ⌝ }
 {
     Doubled((p + 128000000) as u32)

@@ -4,7 +4,7 @@ ghost use Rattle.plane.specs.Refusals.{number, place};
 
 // The refusals of document 01, in its order. Number 5 is withdrawn: no refusal has it.
 pub enum Refusal {
-    // 1: the lists of x and y differ in length.
+    // 1: the lists of x, y and delays differ in length.
     Lists,
     // 2: no sink.
     NoSink,
@@ -22,6 +22,8 @@ pub enum Refusal {
     Tags,
     // 9: the lowest node of which tag 4 or 5 is not what embedding gives.
     Unlike(usize),
+    // 15: the lowest sink with a delay out of range.
+    Late(usize),
 }
 
 // The place that a refusal tells of: none, or a number, of which 0 is one.
@@ -50,6 +52,7 @@ pub fn number_of(r: Refusal) -> u32
         Refusal::Form(_) => 8,
         Refusal::Tags => 9,
         Refusal::Unlike(_) => 9,
+        Refusal::Late(_) => 15,
     }
 }
 
@@ -67,5 +70,6 @@ pub fn place_of(r: Refusal) -> Place
         Refusal::Form(i) => Place::At(i),
         Refusal::Tags => Place::None,
         Refusal::Unlike(i) => Place::At(i),
+        Refusal::Late(i) => Place::At(i),
     }
 }

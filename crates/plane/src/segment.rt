@@ -28,7 +28,7 @@ pub fn root_spot(b: Box, d: u32) -> Spot
 
 // On one axis: the value of a segment nearest to p.
 fn nearest_on(lo: Tilted, hi: Tilted, d: u32, p: Doubled) -> Doubled
-    requires { ⌜ (hi .0 ≤ 67000000) × (d ≤ 2 * hi .0) × (lo .0 ≤ 67000000) × (d ≤ 6000000) ⌝ }
+    requires { ⌜ (hi .0 ≤ 78000000) × (d ≤ 2 * hi .0) × (lo .0 ≤ 78000000) × (d ≤ 28000000) ⌝ }
     ensures { λ r. ⌜ r ≡ nearOf (lowOf hi d) (highOf lo d) p ⌝ }
 {
     measure::nearest(measure::low_end(hi, d), measure::high_end(lo, d), p)

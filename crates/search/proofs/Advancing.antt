@@ -2,7 +2,7 @@
 use mathlib.Core.Path.{_≡_, refl, sym, ap, subst, _∙_}
 use mathlib.Core.Logic.{_≢_}
 use mathlib.Core.List.{List, foldl}
-use Prim.Native.Nat.{ℕ, zero, suc, _+_, _-_, _*_, _^_, _≤_, _<_}
+use Prim.Native.Nat.{ℕ, suc, _+_, _-_, _*_, _^_, _≤_, _<_}
 use native.Mathlib.Nat.{pow-succ'}
 use native.Mathlib.Omega.{arith}
 use lib.Count.{ones}
@@ -10,6 +10,7 @@ use lib.ListN.{length, getD, drop, replicate, length-append, List·getD-append}
 use lib.Pow.{pow-mono}
 use lib.Seq.{take-all}
 use Rattle.lists.specs.Grow.{front}
+use Rattle.lists.proofs.Zeros.{zeros}
 use Rattle.search.specs.Best.{stepCount}
 use Rattle.search.specs.Blocks.{Begun, Blank, Dealt, Deals, Modest, Opened, Short, Within, toFirst, toSecond}
 use Rattle.search.specs.Square.{held}
@@ -41,11 +42,6 @@ dealt-kept t t2 rows h same d =
 -- rows that nothing was put into
 pub clear-rows : (n m : ℕ) → n ≤ m → (7 * 2 ^ n ≤ 7 * 2 ^ m) × Modest (replicate (7 * 2 ^ m) 0)
 clear-rows n m h = (omega (arith, pow-mono {i = n} {j = m} h), λ i. omega (arith, zeros (7 * 2 ^ m) i))
-  where
-    zeros : (k i : ℕ) → _≡_ {A = ℕ} (getD (replicate k 0) i 0) 0
-    zeros zero i = refl
-    zeros (suc k) zero = refl
-    zeros (suc k) (suc i) = zeros k i
 
 -- how many blocks n sinks have
 pub eight-blocks : (n size : ℕ) → 3 ≤ n → size ≡ 2 ^ (n - 3) → 8 * size ≡ 2 ^ n

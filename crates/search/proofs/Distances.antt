@@ -6,17 +6,13 @@ use Prim.Native.Nat.{ℕ, _≤_, _<_, max}
 use native.Mathlib.Omega.{arith}
 use lib.ListN.{getD}
 use Rattle.lists.proofs.Tests.{or-le, or-lt}
-use Rattle.zero_skew.specs.Plane.{Place, Sinks, dist}
+use Rattle.zero_skew.specs.Plane.{Sinks, dist}
 use Rattle.zero_skew.specs.Box.{diameter}
-use Rattle.zero_skew.proofs.Whole.{abs-swap}
+use Rattle.zero_skew.proofs.Distance.{dist-self, dist-swap}
 use Rattle.zero_skew.proofs.Lemma1.{diam-over, diam-met, diam-none}
-use Rattle.zero_skew.proofs.Bound.{dist-self}
 use Rattle.search.specs.Square.{Square, entry, farthestOf, widest, widestOf}
 use Rattle.search.specs.Subsets.{diam, sinksIn}
 use Rattle.search.proofs.Members.{in-sinks, sinks-in}
-
-dist-swap : (p q : Place) → dist p q ≡ dist q p
-dist-swap p q = omega (arith, abs-swap (p .x) (q .x), abs-swap (p .y) (q .y))
 
 max-one : (a b : ℕ) → (max a b ≡ a) ⊎ (max a b ≡ b)
 max-one a b = ⊎-elim (λ h. inr (omega arith)) (λ h. inl (omega arith)) (or-le a b)
@@ -48,42 +44,42 @@ module _ (q : List (List ℕ)) where
   widest-met : (l : List ℕ) → Met l
   unfolding Met widestOf
   widest-met [] = inl refl
-  widest-met (a ∷ l) = go (max-one (farthestOf (getD q a []) l) (widestOf q l)) (farthest-met (getD q a []) l) (widest-met l)
+  widest-met (a ∷ l) = go (max-one (farthestOf (getD q a []) (a ∷ l)) (widestOf q l)) (farthest-met (getD q a []) (a ∷ l)) (widest-met l)
     where
       m : ℕ
-      m = max (farthestOf (getD q a []) l) (widestOf q l)
+      m = max (farthestOf (getD q a []) (a ∷ l)) (widestOf q l)
 
-      go : (m ≡ farthestOf (getD q a []) l) ⊎ (m ≡ widestOf q l) → (farthestOf (getD q a []) l ≡ 0) ⊎ ((j : ℕ) × List·Memᴰ j l × (farthestOf (getD q a []) l ≡ entry q a j)) → Met l
+      go : (m ≡ farthestOf (getD q a []) (a ∷ l)) ⊎ (m ≡ widestOf q l) → (farthestOf (getD q a []) (a ∷ l) ≡ 0) ⊎ ((j : ℕ) × List·Memᴰ j (a ∷ l) × (farthestOf (getD q a []) (a ∷ l) ≡ entry q a j)) → Met l
           → (m ≡ 0) ⊎ ((i : ℕ) × (j : ℕ) × List·Memᴰ i (a ∷ l) × List·Memᴰ j (a ∷ l) × (m ≡ entry q i j))
       go (inl e) (inl z) r = inl (e ∙ z)
-      go (inl e) (inr (j, h, f)) r = inr (a, j, List·Memᴰ·head refl, List·Memᴰ·tail h, e ∙ f)
+      go (inl e) (inr (j, h, f)) r = inr (a, j, List·Memᴰ·head refl, h, e ∙ f)
       go (inr e) r (inl z) = inl (e ∙ z)
       go (inr e) r (inr (i, j, hi, hj, f)) = inr (i, j, List·Memᴰ·tail hi, List·Memᴰ·tail hj, e ∙ f)
 
-  module _ (swap : (i j : ℕ) → entry q i j ≡ entry q j i) (self : (i : ℕ) → entry q i i ≡ 0) where
+  module _ (swap : (i j : ℕ) → entry q i j ≡ entry q j i) where
     widest-over : (l : List ℕ) (i j : ℕ) → List·Memᴰ i l → List·Memᴰ j l → entry q i j ≤ widestOf q l
     unfolding widestOf
-    widest-over (a ∷ l) i j (List·Memᴰ·head e) (List·Memᴰ·head f) =
-        let z : entry q i j ≡ 0 = ap (λ (x : ℕ). entry q x j) (e ∙ sym f) ∙ self j in omega arith
-    widest-over (a ∷ l) i j (List·Memᴰ·head e) (List·Memᴰ·tail m) =
-        let z : entry q i j ≡ entry q a j = ap (λ (x : ℕ). entry q x j) e in omega (arith, farthest-over (getD q a []) l j m)
+    widest-over (a ∷ l) i j (List·Memᴰ·head e) m =
+        let z : entry q i j ≡ entry q a j = ap (λ (x : ℕ). entry q x j) e in omega (arith, farthest-over (getD q a []) (a ∷ l) j m)
     widest-over (a ∷ l) i j (List·Memᴰ·tail m) (List·Memᴰ·head f) =
-        let z : entry q i j ≡ entry q a i = ap (entry q i) f ∙ swap i a in omega (arith, farthest-over (getD q a []) l i m)
+        let z : entry q i j ≡ entry q a i = ap (entry q i) f ∙ swap i a in omega (arith, farthest-over (getD q a []) (a ∷ l) i (List·Memᴰ·tail m))
     widest-over (a ∷ l) i j (List·Memᴰ·tail m) (List·Memᴰ·tail n) = omega (arith, widest-over l i j m n)
 
-module _ (s : Sinks) (no-wait : (i : ℕ) → s .wait i ≡ 0) where
-  -- two sinks
+module _ (s : Sinks) where
+  -- two sinks without a delay
   of-two : (i j a : ℕ) → List·Memᴰ a (i ∷ j ∷ []) → (a ≡ i) ⊎ (a ≡ j)
   of-two i j a (List·Memᴰ·head e) = inl e
   of-two i j a (List·Memᴰ·tail (List·Memᴰ·head e)) = inr e
 
-  pub pair-diameter : (i j : ℕ) → diameter s (i ∷ j ∷ []) ≡ dist (s .at i) (s .at j)
-  pair-diameter i j =
+  pub pair-diameter : ((i : ℕ) → s .wait i ≡ 0) → (i j : ℕ) → diameter s (i ∷ j ∷ []) ≡ dist (s .at i) (s .at j)
+  pair-diameter no-wait i j =
       let (a, b, ma, mb, e) = diam-met s i (j ∷ []) in
       omega (
         arith,
         diam-over s (i ∷ j ∷ []) i j (List·Memᴰ·head refl) (List·Memᴰ·tail (List·Memᴰ·head refl)),
         e,
+        no-wait i,
+        no-wait j,
         no-wait a,
         no-wait b,
         near a b (of-two i j a ma) (of-two i j b mb),
@@ -100,12 +96,9 @@ module _ (s : Sinks) (no-wait : (i : ℕ) → s .wait i ≡ 0) where
     swap i j = go (or-lt i (s .n)) (or-lt j (s .n))
       where
         go : (i < s .n) ⊎ (s .n ≤ i) → (j < s .n) ⊎ (s .n ≤ j) → entry q i j ≡ entry q j i
-        go (inl h) (inl k) = square .near i j h k ∙ dist-swap (s .at i) (s .at j) ∙ sym (square .near j i k h)
+        go (inl h) (inl k) = omega (arith, square .near i j h k, dist-swap (s .at i) (s .at j), square .near j i k h)
         go (inr h) r = square .no-row i j h ∙ sym (square .no-column j i h)
         go (inl h) (inr k) = square .no-column i j k ∙ sym (square .no-row j i k)
-
-    self : (i : ℕ) → entry q i i ≡ 0
-    self i = ⊎-elim (λ h. square .near i i h h ∙ dist-self (s .at i)) (λ h. square .no-row i i h) (or-lt i (s .n))
 
     under : (m i j : ℕ) → List·Memᴰ i (sinksIn 32 m) → List·Memᴰ j (sinksIn 32 m) → entry q i j ≤ diameter s (sinksIn (s .n) m)
     under m i j mi mj = go (or-lt i (s .n)) (or-lt j (s .n))
@@ -126,7 +119,7 @@ module _ (s : Sinks) (no-wait : (i : ℕ) → s .wait i ≡ 0) where
         let (i, j, mi, mj, e) = diam-met s h l in
         let bi = below i mi in
         let bj = below j mj in
-        omega (arith, e, no-wait i, no-wait j, square .near i j (bi .0) (bj .0), widest-over q swap self (sinksIn 32 m) i j (bi .1) (bj .1))
+        omega (arith, e, square .near i j (bi .0) (bj .0), widest-over q swap (sinksIn 32 m) i j (bi .1) (bj .1))
 
     -- THE TIE: what the code finds in the square is document 01's diameter
     pub widest-is : (m : ℕ) → widest q m ≡ diam s m

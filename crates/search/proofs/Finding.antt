@@ -17,12 +17,12 @@ use Rattle.zero_skew.specs.Order.{Order, Over}
 use Rattle.plane.specs.Sinks.{sinksAt, Ranged, checkSinks}
 use Rattle.plane.specs.declared.refusal.Refusal.the-variants.{Room}
 use Rattle.plane.specs.declared.refusal.Checked.the-variants.{Fine}
-use Rattle.plane.proofs.Checks.{passed, accepted}
+use Rattle.plane.proofs.Checks.{passed, both-pass, accepted}
 use Rattle.search.specs.declared.search.Found.{Found}
 use Rattle.embedding.specs.Joins.{Valid}
 use Rattle.embedding.specs.Sound.{Ordered}
 use Rattle.embedding.specs.Embedding.{total}
-use Rattle.embedding.proofs.Accepted.{both-pass, has-room}
+use Rattle.embedding.proofs.Accepted.{has-room}
 use Rattle.nearest.specs.Nearest.{order}
 use Rattle.nearest.proofs.Validity.{order-valid}
 use Rattle.search.specs.Best.{stepCount}
@@ -43,12 +43,12 @@ use Rattle.search.proofs.Numbering.{order-count}
 use Rattle.search.proofs.Small.{diam-small}
 
 -- ---- what an accepted check leaves
-pub provided : (xs ys : List ℤ) (table js : List ℕ) (us vs : List ℤ) (ws : List ℕ)
-    → checkSearch xs ys (length table) (length js) (length us) (length vs) (length ws) ≡ Fine → Provided xs ys table js us vs ws
+pub provided : (xs ys : List ℤ) (delays table js : List ℕ) (us vs : List ℤ) (ws : List ℕ)
+    → checkSearch xs ys delays (length table) (length js) (length us) (length vs) (length ws) ≡ Fine → Provided xs ys delays table js us vs ws
 unfolding checkSearch checkRooms
-provided xs ys table js us vs ws e =
-    let (p, q) = both-pass (checkSinks 12 xs ys) (checkRooms (length xs) (length table) (length js) (length us) (length vs) (length ws)) e in
-    let m = accepted 12 xs ys p in
+provided xs ys delays table js us vs ws e =
+    let (p, q) = both-pass (checkSinks 12 xs ys delays) (checkRooms (length xs) (length table) (length js) (length us) (length vs) (length ws)) e in
+    let m = accepted 12 xs ys delays p in
     let (a, r) = passed (ltb (length table) (2 ^ length xs)) Room _ q in
     let (b, t) = passed (ltb (length js) (2 * (length xs - 1))) Room _ r in
     let (u, v, w) = has-room (2 * length xs - 1) (length us) (length vs) (length ws) t in
@@ -75,21 +75,21 @@ pub joins-all : (s : Sinks) (budget : ℕ) → stepCount (s .n) ≤ budget → j
 unfolding joinsFound
 joins-all s budget h = ap (λ (b : Bool). cond b (keptJoins s budget) (order s (s .n))) (le-leb (stepCount (s .n)) budget h)
 
-module _ (xs ys : List ℤ) (budget : ℕ) where
+module _ (xs ys : List ℤ) (delays : List ℕ) (budget : ℕ) where
   abbrev here : Sinks
-  here = sinksAt xs ys
+  here = sinksAt xs ys delays
 
   pub wrote-near : (js js2 : List ℕ) → budget < stepCount (length xs) → js2 ≡ front (order here (length xs)) js → js2 ≡ front (joinsFound here budget) js
   wrote-near js js2 h e = e ∙ ap (λ (l : List ℕ). front l js) (sym (joins-few here budget h))
 
   -- the square's diameters are the sinks'
   pub squared : length xs ≤ 12 → (q : List (List ℕ)) → Square here q → widest q ≡ diam here
-  squared few q square = widest-all here (λ i. refl) (let e : length xs ≤ 32 = omega arith in e) q square
+  squared few q square = widest-all here (let e : length xs ≤ 32 = omega arith in e) q square
 
   pub diameters-are : length xs ≤ 12 → (q : List (List ℕ)) (ds : List ℕ) → Square here q → Widths q (2 ^ length xs) ds → (m : ℕ) → m < 2 ^ length xs → held ds m ≡ diam here m
   diameters-are few q ds square w m h = w m h ∙ ap (λ (δ : ℕ → ℕ). δ m) (squared few q square)
 
-  pub wrote-kept : (ds table js js2 : List ℕ) → Tabled xs ys budget ds table js → stepCount (length xs) ≤ budget
+  pub wrote-kept : (ds table js js2 : List ℕ) → Tabled xs ys delays budget ds table js → stepCount (length xs) ≤ budget
       → js2 ≡ front (pairsOf (length xs) (keptOrder (held ds) (take (2 ^ length xs) table) (2 ^ length xs - 1)) 0) js → js2 ≡ front (joinsFound here budget) js
   wrote-kept ds table js js2 t h e =
       let p : 2 ≤ 2 ^ length xs = pow-mono {i = 1} {j = length xs} (t .prepared .some) in
@@ -104,11 +104,11 @@ module _ (xs ys : List ℤ) (budget : ℕ) where
       ap (take (2 ^ length xs)) e
       ∙ take-at (tableAfter δ (length xs) budget) (drop (length (tableAfter δ (length xs) budget)) table) (2 ^ length xs) (after-length δ (length xs) budget)
 
-  module _ (ranged : Ranged xs ys) (some : 0 < length xs) (few : length xs ≤ 12) where
+  module _ (ranged : Ranged xs ys delays) (some : 0 < length xs) (few : length xs ≤ 12) where
     -- the kept splits of a finished table join every sink once
     pub all-over : stepCount (length xs) ≤ budget → Over here (keptOrder (diam here) (tableOf here budget) (2 ^ length xs - 1))
     all-over h =
-        kept-over here few (tableOf here budget) (finished (diam here) (length xs) budget h) 6000000 (diam-small xs ys ranged) (omega arith) some
+        kept-over here few (tableOf here budget) (finished (diam here) (length xs) budget h) 6000000 (diam-small xs ys delays ranged) (omega arith) some
 
     pub all-count : (t : List ℕ) → joinCount (keptOrder (diam here) t (2 ^ length xs - 1)) ≡ length xs - 1
     all-count t =

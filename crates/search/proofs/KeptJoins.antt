@@ -9,15 +9,14 @@ use lib.Count.{ones-ones}
 use lib.Pow.{pow-mono}
 use Rattle.lists.specs.Grow.{front}
 use Rattle.zero_skew.specs.Plane.{Sinks}
-use Rattle.zero_skew.specs.Box.{diameter}
 use Rattle.zero_skew.specs.Tree.{count}
-use Rattle.zero_skew.specs.Order.{Order, one, both, sinksOf, sums, Over}
+use Rattle.zero_skew.specs.Order.{Order, one, both, sinksOf, halves, Over}
 use Rattle.embedding.specs.Joins.{left, right, Valid}
 use Rattle.embedding.specs.Nodes.{node}
 use Rattle.embedding.specs.Embedding.{total}
 use Rattle.embedding.specs.Sound.{Ordered}
 use Rattle.embedding.proofs.Orders.{node-sink, node-join}
-use Rattle.embedding.proofs.Joined.{total-sums}
+use Rattle.embedding.proofs.Joined.{halves-are}
 use Rattle.search.specs.Kept.{joinCount, keptOrder, nodeIn, pairsOf}
 use Rattle.search.proofs.Digits.{low}
 use Rattle.search.proofs.Masks.{over-once}
@@ -94,9 +93,9 @@ module _ (s : Sinks) (some : 0 < s .n) (few : s .n ≤ 512) (o : Order) (over : 
       ap (node (s .n) (pairsOf (s .n) o 0)) (sym (root-is o size (over .no-other)))
       ∙ node-of (s .n) (pairsOf (s .n) o 0) pairs-ordered o 0 (over .no-other) (omega (arith, size)) (λ p h. ap (λ (x : ℕ). getD (pairsOf (s .n) o 0) x 0) (let e : 2 * 0 + p ≡ p = omega arith in e))
 
-  -- so its total is the sum of d over the order's joins, plus d of all sinks
-  pub pairs-total : total s (pairsOf (s .n) o 0) ≡ sums s o + diameter s (sinksOf o)
-  pairs-total = sym (total-sums s (pairsOf (s .n) o 0) pairs-ordered) ∙ ap (λ (w : Order). sums s w + diameter s (sinksOf w)) root-order
+  -- so its total is the order's
+  pub pairs-total : total s (pairsOf (s .n) o 0) ≡ halves s o
+  pairs-total = sym (halves-are s (pairsOf (s .n) o 0) pairs-ordered) ∙ ap (halves s) root-order
 
 -- what the code writes for all n sinks, from a table of which it is lent the first `size` entries
 pub kept-written : (δ : ℕ → ℕ) (n size all : ℕ) (t js js2 : List ℕ) → 0 < n → n ≤ 12 → all ≡ 2 ^ n → size ≡ all → 2 * (n - 1) ≤ length js

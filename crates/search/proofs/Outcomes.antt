@@ -25,11 +25,11 @@ pub record Same (r r′ : Searched) (t t′ j j′ : List ℕ) (u u′ v v′ : 
   pub vs-same : v ≡ v′
   pub ws-same : w ≡ w′
 
-module _ (xs ys : List ℤ) (table js : List ℕ) (us vs : List ℤ) (ws : List ℕ) where
+module _ (xs ys : List ℤ) (delays table js : List ℕ) (us vs : List ℤ) (ws : List ℕ) where
   pub only-search : (budget : ℕ) {r r′ : Searched} {t t′ j j′ : List ℕ} {u u′ v v′ : List ℤ} {w w′ : List ℕ}
-      → Searches xs ys budget table js us vs ws r t j u v w → Searches xs ys budget table js us vs ws r′ t′ j′ u′ v′ w′ → Same r r′ t t′ j j′ u u′ v v′ w w′
+      → Searches xs ys delays budget table js us vs ws r t j u v w → Searches xs ys delays budget table js us vs ws r′ t′ j′ u′ v′ w′ → Same r r′ t t′ j j′ u u′ v v′ w w′
   only-search budget {r} {r′} {t} {t′} {j} {j′} {u} {u′} {v} {v′} {w} {w′} p q =
-      let s = sinksAt xs ys in
+      let s = sinksAt xs ys delays in
       let e : r ≡ r′ = p .answers ∙ sym (q .answers) in
       record {
         said = e;
@@ -42,15 +42,15 @@ module _ (xs ys : List ℤ) (table js : List ℕ) (us vs : List ℤ) (ws : List 
 
   module _ (b c : ℕ) (enough : stepCount (length xs) ≤ b) (enough′ : stepCount (length xs) ≤ c) where
     -- what is permitted at one such budget is permitted at the other
-    moved : {r : Searched} {t j : List ℕ} {u v : List ℤ} {w : List ℕ} → Searches xs ys c table js us vs ws r t j u v w → Searches xs ys b table js us vs ws r t j u v w
-    moved {r} {t} {j} {u} {v} {w} p = go (checkSearch xs ys (length table) (length js) (length us) (length vs) (length ws)) refl
+    moved : {r : Searched} {t j : List ℕ} {u v : List ℤ} {w : List ℕ} → Searches xs ys delays c table js us vs ws r t j u v w → Searches xs ys delays b table js us vs ws r t j u v w
+    moved {r} {t} {j} {u} {v} {w} p = go (checkSearch xs ys delays (length table) (length js) (length us) (length vs) (length ws)) refl
       where
-        go : (k : Checked) → checkSearch xs ys (length table) (length js) (length us) (length vs) (length ws) ≡ k → Searches xs ys b table js us vs ws r t j u v w
+        go : (k : Checked) → checkSearch xs ys delays (length table) (length js) (length us) (length vs) (length ws) ≡ k → Searches xs ys delays b table js us vs ws r t j u v w
         go Fine e =
-            let s = sinksAt xs ys in
+            let s = sinksAt xs ys delays in
             let ej : joinsFound s c ≡ joinsFound s b = joins-stand s c b enough′ enough in
             record {
-              answers = p .answers ∙ ap (foundAfter (checkSearch xs ys (length table) (length js) (length us) (length vs) (length ws))) (found-stands s c b enough′ enough);
+              answers = p .answers ∙ ap (foundAfter (checkSearch xs ys delays (length table) (length js) (length us) (length vs) (length ws))) (found-stands s c b enough′ enough);
               writes-table = p .writes-table ∙ ap (λ (l : List ℕ). front (ifTree r l) table) (table-stands s c b enough′ enough);
               writes-js = p .writes-js ∙ ap (λ (l : List ℕ). front (ifTree r l) js) ej;
               writes-u = p .writes-u ∙ ap (λ (l : List ℕ). front (ifTree r (placesU s l)) us) ej;
@@ -58,7 +58,7 @@ module _ (xs ys : List ℤ) (table js : List ℕ) (us vs : List ℤ) (ws : List 
               writes-w = p .writes-w ∙ ap (λ (l : List ℕ). front (ifTree r (wires s l)) ws) ej;
             }
         go (Refused x) e =
-            let s = sinksAt xs ys in
+            let s = sinksAt xs ys delays in
             let er : r ≡ NoTree x = p .answers ∙ ap (λ (k : Checked). foundAfter k (found s c)) e in
             record {
               answers = er ∙ sym (ap (λ (k : Checked). foundAfter k (found s b)) e);
@@ -71,5 +71,5 @@ module _ (xs ys : List ℤ) (table js : List ℕ) (us vs : List ℤ) (ws : List 
 
   -- from F(n) on no byte of any buffer or of the answer changes
   pub same-from : (b c : ℕ) → stepCount (length xs) ≤ b → stepCount (length xs) ≤ c → {r r′ : Searched} {t t′ j j′ : List ℕ} {u u′ v v′ : List ℤ} {w w′ : List ℕ}
-      → Searches xs ys b table js us vs ws r t j u v w → Searches xs ys c table js us vs ws r′ t′ j′ u′ v′ w′ → Same r r′ t t′ j j′ u u′ v v′ w w′
+      → Searches xs ys delays b table js us vs ws r t j u v w → Searches xs ys delays c table js us vs ws r′ t′ j′ u′ v′ w′ → Same r r′ t t′ j j′ u u′ v v′ w w′
   same-from b c h k p q = only-search b p (moved b c h k q)

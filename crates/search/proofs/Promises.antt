@@ -11,19 +11,18 @@ use lib.ListN.{length, take, length-take}
 use lib.Pow.{pow-mono}
 use borrow.Author.Tests.{le-leb, leb-true}
 use Rattle.lists.specs.Grow.{sumTo, tab}
-use Rattle.lists.proofs.Sums.{sum-none}
 use Rattle.lists.proofs.Tests.{or-lt}
 use Rattle.zero_skew.specs.Plane.{Sinks}
 use Rattle.zero_skew.specs.Box.{diameter}
 use Rattle.zero_skew.specs.Tree.{Tree, wire, count, ZeroSkew}
-use Rattle.zero_skew.specs.Order.{Order, sinksOf, sums, Over, halves}
+use Rattle.zero_skew.specs.Order.{Order, sinksOf, Over, halves}
 use Rattle.zero_skew.proofs.Lemma1.{diam-within}
 use Rattle.zero_skew.proofs.Count.{count-in, in-count}
 use Rattle.plane.specs.Sinks.{sinksAt, Ranged}
 use Rattle.embedding.specs.Nodes.{node}
 use Rattle.embedding.specs.Sound.{Ordered}
 use Rattle.embedding.specs.Embedding.{total}
-use Rattle.embedding.proofs.Joined.{total-sums, over}
+use Rattle.embedding.proofs.Joined.{halves-are, over}
 use Rattle.search.specs.Best.{best, stepCount}
 use Rattle.search.specs.Entries.{entryAfter}
 use Rattle.search.specs.Kept.{keptOrder, pairsOf}
@@ -73,17 +72,17 @@ pub from-proven : (s : Sinks) (b : ℕ) → found s b .proven ≡ true → stepC
 unfolding found
 from-proven s b e = leb-true (stepCount (s .n)) b e
 
-module _ (xs ys : List ℤ) (ranged : Ranged xs ys) (some : 0 < length xs) (few : length xs ≤ 12) where
+module _ (xs ys : List ℤ) (delays : List ℕ) (ranged : Ranged xs ys delays) (some : 0 < length xs) (few : length xs ≤ 12) where
   abbrev here : Sinks
-  here = sinksAt xs ys
+  here = sinksAt xs ys delays
 
   -- the table at every budget, entry by entry
   pub table-is : (b : ℕ) → tableOf here b ≡ tab (entryAfter (diam here) b) (2 ^ length xs)
-  table-is b = table-entries (diam here) (length xs) b few 6000000 (diam-small xs ys ranged) (omega arith)
+  table-is b = table-entries (diam here) (length xs) b few 6000000 (diam-small xs ys delays ranged) (omega arith)
 
   -- the total of a valid joining order, by its root
-  totalled : (js : List ℕ) → Ordered (length xs) js → (o : Order) → node (length xs) js (2 * length xs - 2) ≡ o → total here js ≡ sums here o + diameter here (sinksOf o)
-  totalled js ordered o e = sym (total-sums here js ordered) ∙ ap (λ (w : Order). sums here w + diameter here (sinksOf w)) e
+  totalled : (js : List ℕ) → Ordered (length xs) js → (o : Order) → node (length xs) js (2 * length xs - 2) ≡ o → total here js ≡ halves here o
+  totalled js ordered o e = sym (halves-are here js ordered) ∙ ap (halves here) e
 
   -- all orders over the sinks have one diameter
   one-diameter : (o w : Order) → Over here o → Over here w → diameter here (sinksOf o) ≤ diameter here (sinksOf w)
@@ -102,20 +101,20 @@ module _ (xs ys : List ℤ) (ranged : Ranged xs ys) (some : 0 < length xs) (few 
 
     kept-all : Over here kept
     unfolding kept
-    kept-all = all-over xs ys b ranged some few enough
+    kept-all = all-over xs ys delays b ranged some few enough
 
     near : 6000000 ≤ 2 ^ 28
     near = omega arith
 
-    total-kept : total here (joinsFound here b) ≡ sums here kept + diameter here (sinksOf kept)
+    total-kept : total here (joinsFound here b) ≡ halves here kept
     unfolding kept
     total-kept =
         ap (total here) (joins-all here b enough)
-        ∙ pairs-total here some (let f : length xs ≤ 512 = omega arith in f) (keptOrder (diam here) (tableOf here b) (2 ^ length xs - 1)) (all-over xs ys b ranged some few enough) (all-count xs ys b ranged some few (tableOf here b))
+        ∙ pairs-total here some (let f : length xs ≤ 512 = omega arith in f) (keptOrder (diam here) (tableOf here b) (2 ^ length xs - 1)) (all-over xs ys delays b ranged some few enough) (all-count xs ys delays b ranged some few (tableOf here b))
 
-    -- the total in document 01's words: best of all sinks, and their diameter once more
-    pub proven-total : total here (joinsFound here b) ≡ best (diam here) (2 ^ length xs - 1) + diam here (2 ^ length xs - 1)
-    unfolding kept
+    -- the total in document 01's words: best of all sinks, and their diameter once more, without the delays
+    pub proven-total : total here (joinsFound here b) ≡ best (diam here) (2 ^ length xs - 1) + diam here (2 ^ length xs - 1) - 2 * sumTo (here .wait) (length xs)
+    unfolding kept halves
     proven-total =
         let p : 2 ≤ 2 ^ length xs = pow-mono {i = 1} {j = length xs} some in
         let bits : (i : ℕ) → count i (sinksOf kept) ≡ bit i (2 ^ length xs - 1) =
@@ -123,30 +122,28 @@ module _ (xs ys : List ℤ) (ranged : Ranged xs ys) (some : 0 < length xs) (few 
         omega (
           arith,
           total-kept,
-          kept-sums here few (tableOf here b) finishes 6000000 (diam-small xs ys ranged) near some,
-          holds-best (diam here) (2 ^ length xs) (pow-mono few) (tableOf here b) finishes 6000000 (diam-small xs ys ranged) near (2 ^ length xs - 1) (omega arith) (omega arith),
+          kept-sums here few (tableOf here b) finishes 6000000 (diam-small xs ys delays ranged) near some,
+          holds-best (diam here) (2 ^ length xs) (pow-mono few) (tableOf here b) finishes 6000000 (diam-small xs ys delays ranged) near (2 ^ length xs - 1) (omega arith) (omega arith),
           diam-listed here (2 ^ length xs - 1) (sinksOf kept) bits,
           listed-diam here (2 ^ length xs - 1) (sinksOf kept) bits (kept-all .no-other),
         )
 
     -- NO ZERO-SKEW TREE IS SHORTER than a proven one, at whatever fineness k and with whatever joining
     pub none-is-shorter : (k : ℕ) (g : Tree) → ZeroSkew here k g → k * total here (joinsFound here b) ≤ 2 * wire g
-    unfolding kept halves
+    unfolding kept
     none-is-shorter k g z =
-        let w : sumTo (here .wait) (length xs) ≡ 0 = sum-none (here .wait) (length xs) (λ i h. refl) in
-        let e : halves here kept ≡ total here (joinsFound here b) = omega (arith, total-kept, w) in
-        subst (λ (x : ℕ). k * x ≤ 2 * wire g) e (none-shorter here few (tableOf here b) finishes 6000000 (diam-small xs ys ranged) near some k g z)
+        subst (λ (x : ℕ). k * x ≤ 2 * wire g) (sym total-kept) (none-shorter here few (tableOf here b) finishes 6000000 (diam-small xs ys delays ranged) near some k g z)
 
     -- nor is any joining order's
     total-least : (js : List ℕ) → Ordered (length xs) js → total here (joinsFound here b) ≤ total here js
-    unfolding kept
+    unfolding kept halves
     total-least js ordered =
         let o : Over here (node (length xs) js (2 * length xs - 2)) = over here js ordered in
         omega (
           arith,
           total-kept,
           totalled js ordered (node (length xs) js (2 * length xs - 2)) refl,
-          kept-sums here few (tableOf here b) finishes 6000000 (diam-small xs ys ranged) near some,
+          kept-sums here few (tableOf here b) finishes 6000000 (diam-small xs ys delays ranged) near some,
           least-of-all here few (tableOf here b) finishes (node (length xs) js (2 * length xs - 2)) o,
           one-diameter kept (node (length xs) js (2 * length xs - 2)) kept-all o,
         )
@@ -157,4 +154,4 @@ module _ (xs ys : List ℤ) (ranged : Ranged xs ys) (some : 0 < length xs) (few 
     where
       go : (c < stepCount (length xs)) ⊎ (stepCount (length xs) ≤ c) → total here (joinsFound here c) ≤ total here (joinsFound here b)
       go (inl l) = omega (arith, ap (total here) (joins-few here c l), ap (total here) (joins-few here b (omega arith)))
-      go (inr l) = total-least c l (joinsFound here b) (found-ordered xs ys b ranged some few)
+      go (inr l) = total-least c l (joinsFound here b) (found-ordered xs ys delays b ranged some few)

@@ -1,45 +1,47 @@
 -- The square of distances, as it is filled row by row.
-use mathlib.Core.Path.{_≡_, refl, ap, _∙_}
+use mathlib.Core.Path.{_≡_, refl, sym, ap, subst, _∙_}
 use mathlib.Core.Logic.{⊎-elim, _≢_}
 use mathlib.Core.List.{List, [], _∷_}
 use Prim.Native.Nat.{ℕ, _+_, _≤_, _<_}
 use native.Mathlib.Omega.{arith}
 use native.Mathlib.Decide.{ℕ-discrete}
-use lib.IntN.{ℤ}
+use lib.IntN.{ℤ, pos}
 use lib.ListN.{length, getD, set, replicate, getD-replicate, length-replicate, List·getD-eq-default}
 use lib.Seq.{getD-set-same, getD-set-other}
 use Rattle.lists.proofs.Tests.{or-lt}
+use Rattle.lists.proofs.Zeros.{zeros}
 use Rattle.zero_skew.specs.Plane.{Sinks, dist}
+use Rattle.zero_skew.specs.Box.{apart}
 use Rattle.plane.specs.declared.boxes.Box.{Box}
-use Rattle.plane.specs.Boxes.{hullOf, diamOf}
-use Rattle.plane.specs.Sinks.{sinksAt}
+use Rattle.plane.specs.Boxes.{sinkBox, hullOf, diamOf}
+use Rattle.plane.specs.Sinks.{sinksAt, Placed}
 use Rattle.plane.specs.Covers.{Covers}
-use Rattle.plane.proofs.Covering.{covers-hull, covers-diam}
-use Rattle.search.specs.Square.{RowOf, Square, entry}
+use Rattle.plane.proofs.Covering.{fair-diam, covers-sink, covers-hull, covers-diam}
+use Rattle.search.specs.Square.{atSink, RowOf, Square, entry}
 use Rattle.search.proofs.Distances.{pair-diameter}
 
--- the diameter of the box of two sinks is their distance
-pub pair-box : (xs ys : List ℤ) (i j : ℕ) (a b : Box) → Covers (sinksAt xs ys) (i ∷ []) a → Covers (sinksAt xs ys) (j ∷ []) b → diamOf (hullOf a b) ≡ dist (sinksAt xs ys .at i) (sinksAt xs ys .at j)
-pair-box xs ys i j a b p q =
-    covers-diam (sinksAt xs ys) (i ∷ j ∷ []) (hullOf a b) (covers-hull (sinksAt xs ys) (i ∷ []) (j ∷ []) a b (omega arith) (omega arith) p q)
-    ∙ pair-diameter (sinksAt xs ys) (λ k. refl) i j
-
-zeros : (k j : ℕ) → getD {A = ℕ} (replicate k 0) j 0 ≡ 0
-zeros k j =
-    ⊎-elim (λ h. getD-replicate {A = ℕ} k j 0 0 h) (λ h. List·getD-eq-default {A = ℕ} (replicate k 0) 0 (omega (arith, length-replicate {A = ℕ} k 0))) (or-lt j k)
+-- the diameter of the box of two places is their distance
+pub pair-box : {xs ys : List ℤ} {i j : ℕ} {a b : Box} → Placed xs ys i → Placed xs ys j → a ≡ sinkBox (getD xs i (pos 0)) (getD ys i (pos 0)) 0 → b ≡ sinkBox (getD xs j (pos 0)) (getD ys j (pos 0)) 0
+    → (diamOf (hullOf a b) ≡ dist (atSink xs ys i) (atSink xs ys j)) × (diamOf (hullOf a b) ≤ 28000000)
+pair-box {xs} {ys} {i} {j} {a} {b} p q e f =
+    let s = sinksAt xs ys [] in
+    let c : Covers s (i ∷ []) a = subst (Covers s (i ∷ [])) (sym e) (covers-sink xs ys [] i (p .near-x) (p .near-y) (omega arith)) in
+    let d : Covers s (j ∷ []) b = subst (Covers s (j ∷ [])) (sym f) (covers-sink xs ys [] j (q .near-x) (q .near-y) (omega arith)) in
+    let h = covers-hull s (i ∷ []) (j ∷ []) a b (omega arith) (omega arith) c d in
+    (covers-diam s (i ∷ j ∷ []) (hullOf a b) h ∙ pair-diameter s (λ k. refl) i j, fair-diam (h .fair))
 
 module _ (s : Sinks) where
   pub row-begin : (i : ℕ) → RowOf s i 0 (replicate 12 0)
   row-begin i = record { near = λ j h. absurd (omega arith); none = λ j h. zeros 12 j }
 
-  pub row-more : (i k v : ℕ) (row : List ℕ) → RowOf s i k row → k < length row → v ≡ dist (s .at i) (s .at k) → RowOf s i (k + 1) (set row k v)
+  pub row-more : (i k v : ℕ) (row : List ℕ) → RowOf s i k row → k < length row → v ≡ apart s i k → RowOf s i (k + 1) (set row k v)
   row-more i k v row r h e =
       record {
         near = λ j l. go j l (ℕ-discrete j k);
         none = λ j l. let n : j ≢ k = omega arith in getD-set-other row k j v 0 n ∙ r .none j (omega arith);
       }
     where
-      go : (j : ℕ) → j < k + 1 → Dec (j ≡ k) → getD (set row k v) j 0 ≡ dist (s .at i) (s .at j)
+      go : (j : ℕ) → j < k + 1 → Dec (j ≡ k) → getD (set row k v) j 0 ≡ apart s i j
       go j l (yes f) = rw f (getD-set-same row k v 0 h ∙ e)
       go j l (no f) = let n : j ≢ k = f in getD-set-other row k j v 0 n ∙ r .near j (omega arith)
 

@@ -72,24 +72,41 @@ unfolding farthestOf
 farthest-last row [] j = omega arith
 farthest-last row (b ∷ l) j = omega (arith, farthest-last row l j)
 
+onto : (a b c : ℕ) → max a (max b c) ≡ max (max a b) c
+onto a b c = omega arith
+
+turn : (a b c : ℕ) → max a (max b c) ≡ max b (max a c)
+turn a b c = omega arith
+
+across : (a b c d : ℕ) → max (max a b) (max c d) ≡ max (max a c) (max b d)
+across a b c d = omega arith
+
 module _ (q : List (List ℕ)) where
   to-last : (j : ℕ) (l : List ℕ) (i : ℕ) → farthestTo q j (l ++ (i ∷ [])) ≡ max (farthestTo q j l) (entry q i j)
   unfolding farthestTo
   to-last j [] i = omega arith
   to-last j (a ∷ l) i = omega (arith, to-last j l i)
 
-  widest-last : (l : List ℕ) (j : ℕ) → widestOf q (l ++ (j ∷ [])) ≡ max (widestOf q l) (farthestTo q j l)
+  widest-last : (l : List ℕ) (j : ℕ) → widestOf q (l ++ (j ∷ [])) ≡ max (widestOf q l) (max (entry q j j) (farthestTo q j l))
   unfolding widestOf farthestOf farthestTo
   widest-last [] j = omega arith
-  widest-last (a ∷ l) j = omega (arith, farthest-last (getD q a []) l j, widest-last l j)
+  widest-last (a ∷ l) j =
+      let f : ℕ = farthestOf (getD q a []) l in
+      let t : ℕ = max (entry q j j) (farthestTo q j l) in
+      ap₂ (λ (x y : ℕ). max (max (entry q a a) x) y) (farthest-last (getD q a []) l j) (widest-last l j)
+      ∙ ap (λ (x : ℕ). max x (max (widestOf q l) t)) (onto (entry q a a) f (entry q a j))
+      ∙ across (max (entry q a a) f) (entry q a j) (widestOf q l) t
+      ∙ ap (max (max (max (entry q a a) f) (widestOf q l))) (turn (entry q a j) (entry q j j) (farthestTo q j l))
 
-  farthest-zero : (j : ℕ) → farthestIn q j 0 ≡ 0
+  farthest-zero : (j : ℕ) → farthestIn q j 0 ≡ entry q j j
   unfolding farthestIn farthestTo
-  farthest-zero j = ap (farthestTo q j) sinks-zero
+  farthest-zero j = ap (λ (l : List ℕ). max (entry q j j) (farthestTo q j l)) sinks-zero ∙ omega arith
 
   farthest-more : (j i r : ℕ) → i < 32 → r < 2 ^ i → farthestIn q j (2 ^ i + r) ≡ max (farthestIn q j r) (entry q i j)
   unfolding farthestIn
-  farthest-more j i r h k = ap (farthestTo q j) (sinks-last i r h k) ∙ to-last j (sinksIn 32 r) i
+  farthest-more j i r h k =
+      ap (max (entry q j j)) (ap (farthestTo q j) (sinks-last i r h k) ∙ to-last j (sinksIn 32 r) i)
+      ∙ onto (entry q j j) (farthestTo q j (sinksIn 32 r)) (entry q i j)
 
   widest-zero : widest q 0 ≡ 0
   unfolding widest widestOf
@@ -121,11 +138,11 @@ changed-more {at} {k} {f} {a} {b} {v} c h u = record {
 pub changed-all : {at k n : ℕ} {f : ℕ → ℕ} {a b : List ℕ} → k ≡ n → Changed at k f a b → Changed at n f a b
 changed-all {at} {k} {n} {f} {a} {b} e c = subst (λ (x : ℕ). Changed at x f a b) e c
 
--- no sinks
-pub farthest-start : (q : List (List ℕ)) (j half : ℕ) (ds : List ℕ) → half < length ds → Changed half 1 (farthestIn q j) ds (set ds half 0)
+-- no sinks but j itself
+pub farthest-start : (q : List (List ℕ)) (j half : ℕ) (ds : List ℕ) → half < length ds → Changed half 1 (farthestIn q j) ds (set ds half (entry q j j))
 farthest-start q j half ds h =
     let e : half + 0 ≡ half = omega arith in
-    subst (λ (x : ℕ). Changed half 1 (farthestIn q j) ds (set ds x 0)) e (changed-more changed-none (omega arith) (sym (farthest-zero q j)))
+    subst (λ (x : ℕ). Changed half 1 (farthestIn q j) ds (set ds x (entry q j j))) e (changed-more changed-none (omega arith) (sym (farthest-zero q j)))
 
 pub double-is : (i step : ℕ) → step ≡ 2 ^ i → 2 * step ≡ 2 ^ (i + 1)
 double-is i step e = let f : suc i ≡ i + 1 = omega arith in ap (λ (x : ℕ). 2 * x) e ∙ sym (pow-succ' 2 i) ∙ ap (λ (x : ℕ). 2 ^ x) f

@@ -1,4 +1,4 @@
--- Document 01, "Refusal numbers", for the exact search: 1 to 4 with at most 12 sinks, then 7.
+-- Document 01, "Refusal numbers", for the exact search: 1 to 4 with at most 12 sinks and 15, then 7.
 use mathlib.Core.List.{List}
 use Prim.Native.Nat.{ℕ, _-_, _*_, _^_}
 use lib.Dec.{ltb}
@@ -14,5 +14,5 @@ use Rattle.embedding.specs.Embedding.{checkRoom}
 unfoldable pub checkRooms : ℕ → ℕ → ℕ → ℕ → ℕ → ℕ → Checked
 checkRooms n rt rj ru rv rw = refuseIf (ltb rt (2 ^ n)) Room (refuseIf (ltb rj (2 * (n - 1))) Room (checkRoom (2 * n - 1) ru rv rw))
 
-unfoldable pub checkSearch : List ℤ → List ℤ → ℕ → ℕ → ℕ → ℕ → ℕ → Checked
-checkSearch xs ys rt rj ru rv rw = andThen (checkSinks 12 xs ys) (checkRooms (length xs) rt rj ru rv rw)
+unfoldable pub checkSearch : List ℤ → List ℤ → List ℕ → ℕ → ℕ → ℕ → ℕ → ℕ → Checked
+checkSearch xs ys delays rt rj ru rv rw = andThen (checkSinks 12 xs ys delays) (checkRooms (length xs) rt rj ru rv rw)

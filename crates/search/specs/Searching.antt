@@ -48,10 +48,10 @@ ifTree (Tree f) l = l
 ifTree (NoTree r) l = []
 
 -- the inputs, the five buffers before, the answer, and the five buffers after
-pub record Searches (xs ys : List ℤ) (budget : ℕ) (table js : List ℕ) (us vs : List ℤ) (ws : List ℕ) (said : Searched) (table′ js′ : List ℕ) (us′ vs′ : List ℤ) (ws′ : List ℕ) : Type 0 where
-  pub answers : said ≡ foundAfter (checkSearch xs ys (length table) (length js) (length us) (length vs) (length ws)) (found (sinksAt xs ys) budget)
-  pub writes-table : table′ ≡ front (ifTree said (tableOf (sinksAt xs ys) budget)) table
-  pub writes-js : js′ ≡ front (ifTree said (joinsFound (sinksAt xs ys) budget)) js
-  pub writes-u : us′ ≡ front (ifTree said (placesU (sinksAt xs ys) (joinsFound (sinksAt xs ys) budget))) us
-  pub writes-v : vs′ ≡ front (ifTree said (placesV (sinksAt xs ys) (joinsFound (sinksAt xs ys) budget))) vs
-  pub writes-w : ws′ ≡ front (ifTree said (wires (sinksAt xs ys) (joinsFound (sinksAt xs ys) budget))) ws
+pub record Searches (xs ys : List ℤ) (delays : List ℕ) (budget : ℕ) (table js : List ℕ) (us vs : List ℤ) (ws : List ℕ) (said : Searched) (table′ js′ : List ℕ) (us′ vs′ : List ℤ) (ws′ : List ℕ) : Type 0 where
+  pub answers : said ≡ foundAfter (checkSearch xs ys delays (length table) (length js) (length us) (length vs) (length ws)) (found (sinksAt xs ys delays) budget)
+  pub writes-table : table′ ≡ front (ifTree said (tableOf (sinksAt xs ys delays) budget)) table
+  pub writes-js : js′ ≡ front (ifTree said (joinsFound (sinksAt xs ys delays) budget)) js
+  pub writes-u : us′ ≡ front (ifTree said (placesU (sinksAt xs ys delays) (joinsFound (sinksAt xs ys delays) budget))) us
+  pub writes-v : vs′ ≡ front (ifTree said (placesV (sinksAt xs ys delays) (joinsFound (sinksAt xs ys delays) budget))) vs
+  pub writes-w : ws′ ≡ front (ifTree said (wires (sinksAt xs ys delays) (joinsFound (sinksAt xs ys delays) budget))) ws

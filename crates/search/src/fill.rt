@@ -13,13 +13,14 @@ ghost use Rattle.search.specs.Sums.{Leading, apart, sums, threeOf};
 use crate::blocks;
 use crate::square;
 use crate::subset;
+use plane::measure;
 
 // What the two parts of a split of s come to: `other`, and the part that holds the lowest sink.
 fn parts(table: &[u32], s: u32, other: u32) -> u64
     requires { ⌜ (other ≤ s) × (s < length (now table)) ⌝ }
     ensures { λ r. ⌜ (r < 2 ^ 33) × (r ≡ apart (now (table .entry)) s other) ⌝ }
 {
-    subset::wide(table[subset::place(s - other)]) + subset::wide(table[subset::place(other)])
+    measure::wide(table[subset::place(s - other)]) + measure::wide(table[subset::place(other)])
 }
 
 // What the split of s into `other` and the part that holds the lowest sink comes to.
@@ -27,7 +28,7 @@ pub fn cost(table: &[u32], d: u32, s: u32, other: u32) -> u64
     requires { ⌜ (0 < other) × (other ≤ s) × (s < length (now table)) ⌝ }
     ensures { λ r. ⌜ r ≡ d + getD (now (table .entry)) (s - other) 0 + getD (now (table .entry)) other 0 ⌝ }
 {
-    subset::wide(d) + parts(table, s, other)
+    measure::wide(d) + parts(table, s, other)
 }
 
 // The smaller of two.
@@ -90,8 +91,8 @@ fn examine_all(table: &[u32], d: u32, s: u32) -> u32
     if rest == 0 {
         return best;
     }
-    let sum = subset::wide(d) + least_parts(table, s, rest);
-    if sum < subset::wide(best) {
+    let sum = measure::wide(d) + least_parts(table, s, rest);
+    if sum < measure::wide(best) {
         sum as u32
     } else {
         best
@@ -118,7 +119,7 @@ fn examine_some(table: &[u32], d: u32, s: u32, budget: u64) -> Examined
             break;
         }
         let sum = cost(table, d, s, other);
-        if sum < subset::wide(best) {
+        if sum < measure::wide(best) {
             best = sum as u32;
         }
         other = (other - 1) & rest;

@@ -10,6 +10,7 @@ ghost use Rattle.search.specs.Kept.{keptPart, keptOrder, pairsOf, nodeOf
 use crate::fill;
 use crate::square;
 use crate::subset;
+use plane::measure;
 
 // The part with the lowest sink, in the split of s that is kept.
 fn kept(ds: &[u32], table: &[u32], s: u32) -> u32
@@ -18,7 +19,7 @@ fn kept(ds: &[u32], table: &[u32], s: u32) -> u32
 {
     let d = square::diameter(ds, s);
     let rest = subset::beyond(s);
-    let goal = subset::wide(table[subset::place(s)]);
+    let goal = measure::wide(table[subset::place(s)]);
     let mut other = rest;
     while other != 0 {
         if fill::cost(table, d, s, other) == goal {

@@ -26,15 +26,16 @@ fn check_rooms(n: usize, table: usize, js: usize, us: usize, vs: usize, ws: usiz
 pub fn check_search(
     xs: &[i32],
     ys: &[i32],
+    delays: &[u32],
     table: usize,
     js: usize,
     us: usize,
     vs: usize,
     ws: usize,
 ) -> Checked
-    ensures { λ r. ⌜ r ≡ checkSearch (now (xs .entry)) (now (ys .entry)) table js us vs ws ⌝ }
+    ensures { λ r. ⌜ r ≡ checkSearch (now (xs .entry)) (now (ys .entry)) (now (delays .entry)) table js us vs ws ⌝ }
 {
-    let said = sinks::check_sinks(xs, ys, 12);
+    let said = sinks::check_sinks(xs, ys, delays, 12);
     if let Checked::Refused(r) = said {
         return Checked::Refused(r);
     }

@@ -29,28 +29,43 @@ pub enum Searched {
 }
 
 // Writes the joins that the budget allows: of the kept splits, or by least diameter.
-fn write_joins(xs: &[i32], ys: &[i32], budget: u64, ds: &[u32], table: &[u32], js: &mut [u16])
-    requires { ⌜ Tabled (now xs) (now ys) budget (now ds) (now table) (now js) ⌝ }
-    ensures { λ _. ⌜ now (js .exit) ≡ front (joinsFound (sinksAt (now (xs .entry)) (now (ys .entry))) budget) (now (js .entry)) ⌝ }
+fn write_joins(
+    xs: &[i32],
+    ys: &[i32],
+    delays: &[u32],
+    budget: u64,
+    ds: &[u32],
+    table: &[u32],
+    js: &mut [u16],
+)
+    requires { ⌜ Tabled (now xs) (now ys) (now delays) budget (now ds) (now table) (now js) ⌝ }
+    ensures { λ _. ⌜ now (js .exit) ≡ front (joinsFound (sinksAt (now (xs .entry)) (now (ys .entry)) (now (delays .entry))) budget) (now (js .entry)) ⌝ }
 {
     let n = xs.len();
     if budget < subset::all_steps(n) {
-        order::order_sound(xs, ys, js);
+        order::order_sound(xs, ys, delays, js);
     } else {
         kept::write_kept(ds, table, n, js);
     }
 }
 
 // Fills the table and writes the joins, and returns how many splits were examined.
-fn search_joins(xs: &[i32], ys: &[i32], budget: u64, table: &mut [u32], js: &mut [u16]) -> u64
-    requires { ⌜ Prepared (now xs) (now ys) (now table) (now js) ⌝ }
-    ensures { λ r. ⌜ Joins (now (xs .entry)) (now (ys .entry)) budget (now (table .entry)) (now (js .entry)) r (now (table .exit)) (now (js .exit)) ⌝ }
+fn search_joins(
+    xs: &[i32],
+    ys: &[i32],
+    delays: &[u32],
+    budget: u64,
+    table: &mut [u32],
+    js: &mut [u16],
+) -> u64
+    requires { ⌜ Prepared (now xs) (now ys) (now delays) (now table) (now js) ⌝ }
+    ensures { λ r. ⌜ Joins (now (xs .entry)) (now (ys .entry)) (now (delays .entry)) budget (now (table .entry)) (now (js .entry)) r (now (table .exit)) (now (js .exit)) ⌝ }
 {
     let n = subset::sinks(xs.len());
     let mut ds: [u32; 4096] = [0; 4096];
-    square::diameters(square::square(xs, ys), &mut ds, n);
+    square::diameters(square::square(xs, ys, delays), &mut ds, n);
     let steps = fill::fill(&ds, table, n, budget);
-    write_joins(xs, ys, budget, &ds, table, js);
+    write_joins(xs, ys, delays, budget, &ds, table, js);
     steps
 }
 
@@ -58,6 +73,7 @@ fn search_joins(xs: &[i32], ys: &[i32], budget: u64, table: &mut [u32], js: &mut
 pub fn search_sound(
     xs: &[i32],
     ys: &[i32],
+    delays: &[u32],
     budget: u64,
     table: &mut [u32],
     js: &mut [u16],
@@ -65,13 +81,13 @@ pub fn search_sound(
     vs: &mut [i32],
     ws: &mut [u32],
 ) -> Found
-    requires { ⌜ Provided (now xs) (now ys) (now table) (now js) (now us) (now vs) (now ws) ⌝ }
-    ensures { λ r. ⌜ Finds (now (xs .entry)) (now (ys .entry)) budget (now (table .entry)) (now (js .entry)) (now (us .entry)) (now (vs .entry)) (now (ws .entry)) r (now (table .exit)) (now (js .exit)) (now (us .exit)) (now (vs .exit)) (now (ws .exit)) ⌝ }
+    requires { ⌜ Provided (now xs) (now ys) (now delays) (now table) (now js) (now us) (now vs) (now ws) ⌝ }
+    ensures { λ r. ⌜ Finds (now (xs .entry)) (now (ys .entry)) (now (delays .entry)) budget (now (table .entry)) (now (js .entry)) (now (us .entry)) (now (vs .entry)) (now (ws .entry)) r (now (table .exit)) (now (js .exit)) (now (us .exit)) (now (vs .exit)) (now (ws .exit)) ⌝ }
 {
-    let steps = search_joins(xs, ys, budget, table, js);
+    let steps = search_joins(xs, ys, delays, budget, table, js);
     let n = xs.len();
     let end = 2 * (n - 1);
-    let total = embed::embed_sound(xs, ys, &js[0..end], us, vs, ws);
+    let total = embed::embed_sound(xs, ys, delays, &js[0..end], us, vs, ws);
     Found {
         total: total,
         steps: steps,
@@ -84,6 +100,7 @@ pub fn search_sound(
 pub fn search(
     xs: &[i32],
     ys: &[i32],
+    delays: &[u32],
     budget: u64,
     table: &mut [u32],
     js: &mut [u16],
@@ -91,11 +108,20 @@ pub fn search(
     vs: &mut [i32],
     ws: &mut [u32],
 ) -> Searched
-    ensures { λ r. ⌜ Searches (now (xs .entry)) (now (ys .entry)) budget (now (table .entry)) (now (js .entry)) (now (us .entry)) (now (vs .entry)) (now (ws .entry)) r (now (table .exit)) (now (js .exit)) (now (us .exit)) (now (vs .exit)) (now (ws .exit)) ⌝ }
+    ensures { λ r. ⌜ Searches (now (xs .entry)) (now (ys .entry)) (now (delays .entry)) budget (now (table .entry)) (now (js .entry)) (now (us .entry)) (now (vs .entry)) (now (ws .entry)) r (now (table .exit)) (now (js .exit)) (now (us .exit)) (now (vs .exit)) (now (ws .exit)) ⌝ }
 {
-    let said = rooms::check_search(xs, ys, table.len(), js.len(), us.len(), vs.len(), ws.len());
+    let said = rooms::check_search(
+        xs,
+        ys,
+        delays,
+        table.len(),
+        js.len(),
+        us.len(),
+        vs.len(),
+        ws.len(),
+    );
     if let Checked::Refused(r) = said {
         return Searched::NoTree(r);
     }
-    Searched::Tree(search_sound(xs, ys, budget, table, js, us, vs, ws))
+    Searched::Tree(search_sound(xs, ys, delays, budget, table, js, us, vs, ws))
 }

@@ -1,56 +1,58 @@
-// Distances between sinks, in a square of twelve rows by twelve, and the diameters of all subsets from them.
+// How far sinks are apart, in a square of twelve rows by twelve, and the diameters of all subsets from them.
 ghost use mathlib.Core.Path.{_≡_};
 ghost use Prim.Native.Nat.{ℕ, _<_, _≤_, _+_, _^_, max};
 ghost use lib.ListN.{length};
 ghost use Rattle.zero_skew.specs.Plane.{dist};
-ghost use Rattle.plane.specs.Sinks.{sinksAt, Ranged};
-ghost use Rattle.search.specs.Square.{Square, RowOf, Widths, Changed, held, farthestIn};
+ghost use Rattle.zero_skew.specs.Box.{apart as apartOf};
+ghost use Rattle.plane.specs.Sinks.{sinksAt, Fitting, Placed};
+ghost use Rattle.search.specs.Square.{atSink, Square, RowOf, Widths, Changed, held, farthestIn};
 use crate::subset;
 use plane::bounds;
 use plane::boxes;
-use plane::boxes::Box;
+use plane::measure;
 
-// The distance of sinks i and j: the larger of the two widths of their box.
+// The distance of sinks i and j: the larger of the two widths of the box of their places.
 fn distance(xs: &[i32], ys: &[i32], i: usize, j: usize) -> u32
-    requires { ⌜ Ranged (now xs) (now ys) × (i < length (now xs)) × (j < length (now xs)) ⌝ }
-    ensures { λ r. ⌜ r ≡ dist (sinksAt (now (xs .entry)) (now (ys .entry)) .at i) (sinksAt (now (xs .entry)) (now (ys .entry)) .at j) ⌝ }
+    requires { ⌜ Placed (now xs) (now ys) i × Placed (now xs) (now ys) j ⌝ }
+    ensures { λ r. ⌜ (r ≡ dist (atSink (now (xs .entry)) (now (ys .entry)) i) (atSink (now (xs .entry)) (now (ys .entry)) j)) × (r ≤ 28000000) ⌝ }
 {
-    boxes::diameter(boxes::hull(bounds::sink_at(xs, ys, i), bounds::sink_at(xs, ys, j)))
+    boxes::diameter(boxes::hull(bounds::place_at(xs, ys, i), bounds::place_at(xs, ys, j)))
 }
 
-// The distances of sink i to all sinks.
-fn row(xs: &[i32], ys: &[i32], i: usize) -> [u32; 12]
-    requires { ⌜ Ranged (now xs) (now ys) × (i < length (now xs)) × (length (now xs) ≤ 12) ⌝ }
-    ensures { λ r. ⌜ RowOf (sinksAt (now (xs .entry)) (now (ys .entry))) i (length (now (xs .entry))) r ⌝ }
+// How far sinks i and j are apart: their distance and both delays.
+fn apart(xs: &[i32], ys: &[i32], delays: &[u32], i: usize, j: usize) -> u32
+    requires { ⌜ Fitting (now xs) (now ys) (now delays) × (i < length (now xs)) × (j < length (now xs)) ⌝ }
+    ensures { λ r. ⌜ r ≡ apartOf (sinksAt (now (xs .entry)) (now (ys .entry)) (now (delays .entry))) i j ⌝ }
+{
+    distance(xs, ys, i, j) + (delays[i] + delays[j])
+}
+
+// How far sink i is apart from each sink.
+fn row(xs: &[i32], ys: &[i32], delays: &[u32], i: usize) -> [u32; 12]
+    requires { ⌜ Fitting (now xs) (now ys) (now delays) × (i < length (now xs)) × (length (now xs) ≤ 12) ⌝ }
+    ensures { λ r. ⌜ RowOf (sinksAt (now (xs .entry)) (now (ys .entry)) (now (delays .entry))) i (length (now (xs .entry))) r ⌝ }
 {
     let mut r: [u32; 12] = [0; 12];
     let mut j = 0;
     while j < xs.len() {
-        r[j] = distance(xs, ys, i, j);
+        r[j] = apart(xs, ys, delays, i, j);
         j += 1;
     }
     r
 }
 
-// The distances of all sinks.
-pub fn square(xs: &[i32], ys: &[i32]) -> [[u32; 12]; 12]
-    requires { ⌜ Ranged (now xs) (now ys) × (length (now xs) ≤ 12) ⌝ }
-    ensures { λ r. ⌜ Square (sinksAt (now (xs .entry)) (now (ys .entry))) r ⌝ }
+// How far all sinks are apart.
+pub fn square(xs: &[i32], ys: &[i32], delays: &[u32]) -> [[u32; 12]; 12]
+    requires { ⌜ Fitting (now xs) (now ys) (now delays) × (length (now xs) ≤ 12) ⌝ }
+    ensures { λ r. ⌜ Square (sinksAt (now (xs .entry)) (now (ys .entry)) (now (delays .entry))) r ⌝ }
 {
     let mut q: [[u32; 12]; 12] = [[0; 12]; 12];
     let mut i = 0;
     while i < xs.len() {
-        q[i] = row(xs, ys, i);
+        q[i] = row(xs, ys, delays, i);
         i += 1;
     }
     q
-}
-
-// The larger of two.
-fn larger(x: u32, y: u32) -> u32
-    ensures { λ r. ⌜ r ≡ max x y ⌝ }
-{
-    if x < y { y } else { x }
 }
 
 // The diameter of s, of those in ds.
@@ -69,19 +71,19 @@ fn stretch(ds: &mut [u32], half: usize, step: usize, w: u32)
 {
     let mut r = 0;
     while r < step {
-        ds[half + step + r] = larger(ds[half + r], w);
+        ds[half + step + r] = measure::larger(ds[half + r], w);
         r += 1;
     }
 }
 
-// For every subset r of the sinks before j, how far sink j is from the farthest of them, at half + r. The sinks are taken in one by one, and each doubles the subsets that are done.
+// For every subset r of the sinks before j, how far sink j is from the farthest of them and of itself, at half + r. The sinks are taken in one by one, and each doubles the subsets that are done.
 fn farthest(q: [[u32; 12]; 12], ds: &mut [u32], j: usize, half: usize)
     requires { ⌜ (j < 12) × (half ≡ 2 ^ j) × (half + half ≤ length (now ds)) ⌝ }
     ensures { λ _. ⌜ Changed half half (farthestIn q j) (now (ds .entry)) (now (ds .exit)) ⌝ }
 {
     let mut i = 0;
     let mut step = 1;
-    ds[half] = 0;
+    ds[half] = q[j][j];
     while i < j {
         stretch(ds, half, step, q[i][j]);
         step = 2 * step;
@@ -96,7 +98,7 @@ fn widen(ds: &mut [u32], half: usize)
 {
     let mut r = 0;
     while r < half {
-        ds[half + r] = larger(ds[half + r], ds[r]);
+        ds[half + r] = measure::larger(ds[half + r], ds[r]);
         r += 1;
     }
 }

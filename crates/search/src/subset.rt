@@ -5,12 +5,7 @@ ghost use lib.ListN.{length};
 ghost use Rattle.search.specs.Subsets.{lowest, splits};
 ghost use Rattle.search.specs.Best.{stepCount};
 ghost use Rattle.search.specs.Table.{blankOf};
-
-pub fn wide(x: u32) -> u64
-    ensures { λ r. ⌜ (r ≡ x) × (r < 2 ^ 32) ⌝ }
-{
-    x as u64
-}
+use plane::measure;
 
 // A subset's place in the table, or a number of sinks as a place.
 pub fn place(s: u32) -> usize
@@ -56,7 +51,7 @@ pub fn split_count(s: u32) -> u64
     requires { ⌜ (0 < s) × (s < 2 ^ 12) ⌝ }
     ensures { λ r. ⌜ r ≡ length (splits s) ⌝ }
 {
-    wide(subsets(u32::count_ones(s) - 1)) - 1
+    measure::wide(subsets(u32::count_ones(s) - 1)) - 1
 }
 
 // What a subset holds before any of its splits is examined.

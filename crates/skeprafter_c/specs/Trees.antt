@@ -10,14 +10,14 @@ use Rattle.nearest.specs.Calls.{checkNearest, orderAfter, treeAnswer, Joining, 
 use Rattle.skeprafter_c.specs.Words.{orderWords, treeWords}
 
 -- lists and buffers before, buffers after, and what is said
-pub record Embeds (xs ys : List ℤ) (js : List ℕ) (us vs : List ℤ) (ws : List ℕ) (us′ vs′ : List ℤ) (ws′ said : List ℕ) : Type 0 where
-  pub does : Permitted xs ys js us vs ws (answer xs ys js (length us) (length vs) (length ws)) us′ vs′ ws′
-  pub says : said ≡ treeWords (answer xs ys js (length us) (length vs) (length ws))
+pub record Embeds (xs ys : List ℤ) (delays js : List ℕ) (us vs : List ℤ) (ws : List ℕ) (us′ vs′ : List ℤ) (ws′ said : List ℕ) : Type 0 where
+  pub does : Permitted xs ys delays js us vs ws (answer xs ys delays js (length us) (length vs) (length ws)) us′ vs′ ws′
+  pub says : said ≡ treeWords (answer xs ys delays js (length us) (length vs) (length ws))
 
-pub record Joins (xs ys : List ℤ) (js js′ said : List ℕ) : Type 0 where
-  pub does : Joining xs ys js (orderAfter (checkNearest xs ys (length js))) js′
-  pub says : said ≡ orderWords (orderAfter (checkNearest xs ys (length js)))
+pub record Joins (xs ys : List ℤ) (delays js js′ said : List ℕ) : Type 0 where
+  pub does : Joining xs ys delays js (orderAfter (checkNearest xs ys delays (length js))) js′
+  pub says : said ≡ orderWords (orderAfter (checkNearest xs ys delays (length js)))
 
-pub record JoinsAndEmbeds (xs ys : List ℤ) (js : List ℕ) (us vs : List ℤ) (ws js′ : List ℕ) (us′ vs′ : List ℤ) (ws′ said : List ℕ) : Type 0 where
-  pub does : Embedding xs ys js us vs ws (treeAnswer xs ys (length js) (length us) (length vs) (length ws)) js′ us′ vs′ ws′
-  pub says : said ≡ treeWords (treeAnswer xs ys (length js) (length us) (length vs) (length ws))
+pub record JoinsAndEmbeds (xs ys : List ℤ) (delays js : List ℕ) (us vs : List ℤ) (ws js′ : List ℕ) (us′ vs′ : List ℤ) (ws′ said : List ℕ) : Type 0 where
+  pub does : Embedding xs ys delays js us vs ws (treeAnswer xs ys delays (length js) (length us) (length vs) (length ws)) js′ us′ vs′ ws′
+  pub says : said ≡ treeWords (treeAnswer xs ys delays (length js) (length us) (length vs) (length ws))

@@ -9,10 +9,16 @@ use plane::boxes;
 use skeprafter::Boxed;
 
 #[no_mangle]
-pub extern "C" fn skeprafter_box_of(x: &[i32], y: &[i32], kept: &mut [u32; 4], said: &mut [u64; 6])
-    ensures { λ _. ⌜ Keeps (boxAnswer (now (x .entry)) (now (y .entry))) (now (kept .entry)) (now (kept .exit)) × (now (said .exit) ≡ boxWords (boxAnswer (now (x .entry)) (now (y .entry)))) ⌝ }
+pub extern "C" fn skeprafter_box_of(
+    x: &[i32],
+    y: &[i32],
+    delays: &[u32],
+    kept: &mut [u32; 4],
+    said: &mut [u64; 6],
+)
+    ensures { λ _. ⌜ Keeps (boxAnswer (now (x .entry)) (now (y .entry)) (now (delays .entry))) (now (kept .entry)) (now (kept .exit)) × (now (said .exit) ≡ boxWords (boxAnswer (now (x .entry)) (now (y .entry)) (now (delays .entry)))) ⌝ }
 {
-    let answer = skeprafter::box_of(x, y);
+    let answer = skeprafter::box_of(x, y, delays);
     match answer {
         Boxed::Of(b) => {
             *kept = boxes::numbers(b);
@@ -25,10 +31,16 @@ pub extern "C" fn skeprafter_box_of(x: &[i32], y: &[i32], kept: &mut [u32; 4], s
 }
 
 #[no_mangle]
-pub extern "C" fn skeprafter_widen(kept: &mut [u32; 4], x: i32, y: i32, said: &mut [u64; 6])
-    ensures { λ _. ⌜ (held (now (kept .exit)) ≡ widenedBy (held (now (kept .entry))) x y) × (now (said .exit) ≡ checkedWords (verdict x y)) ⌝ }
+pub extern "C" fn skeprafter_widen(
+    kept: &mut [u32; 4],
+    x: i32,
+    y: i32,
+    delay: u32,
+    said: &mut [u64; 6],
+)
+    ensures { λ _. ⌜ (held (now (kept .exit)) ≡ widenedBy (held (now (kept .entry))) x y delay) × (now (said .exit) ≡ checkedWords (verdict x y delay)) ⌝ }
 {
-    let w = skeprafter::widened(boxes::of_numbers(*kept), x, y);
+    let w = skeprafter::widened(boxes::of_numbers(*kept), x, y, delay);
     let after = w.held;
     let verdict = w.said;
     *kept = boxes::numbers(after);

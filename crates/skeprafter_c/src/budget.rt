@@ -6,6 +6,7 @@ use crate::said;
 pub extern "C" fn skeprafter_search(
     x: &[i32],
     y: &[i32],
+    delays: &[u32],
     budget: u64,
     table: &mut [u32],
     joins: &mut [u16],
@@ -14,7 +15,7 @@ pub extern "C" fn skeprafter_search(
     wires: &mut [u32],
     said: &mut [u64; 6],
 )
-    ensures { λ _. ⌜ Searched (now (x .entry)) (now (y .entry)) budget (now (table .entry)) (now (joins .entry)) (now (u .entry)) (now (v .entry)) (now (wires .entry)) (now (table .exit)) (now (joins .exit)) (now (u .exit)) (now (v .exit)) (now (wires .exit)) (now (said .exit)) ⌝ }
+    ensures { λ _. ⌜ Searched (now (x .entry)) (now (y .entry)) (now (delays .entry)) budget (now (table .entry)) (now (joins .entry)) (now (u .entry)) (now (v .entry)) (now (wires .entry)) (now (table .exit)) (now (joins .exit)) (now (u .exit)) (now (v .exit)) (now (wires .exit)) (now (said .exit)) ⌝ }
 {
-    *said = said::of_searched(skeprafter::search(x, y, budget, table, joins, u, v, wires));
+    *said = said::of_searched(skeprafter::search(x, y, delays, budget, table, joins, u, v, wires));
 }

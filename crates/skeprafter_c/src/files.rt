@@ -1,5 +1,5 @@
 // House files, written and read.
-ghost use Rattle.plane.specs.Sinks.{checkSinks};
+ghost use Rattle.plane.specs.Sinks.{prompt, checkSinks};
 ghost use Rattle.embedding.specs.Embedding.{checkOrder};
 ghost use Rattle.house.specs.Files.{sinkFile, joinedFile, treeFile};
 ghost use Rattle.house.specs.Reading.{xsIn, ysIn, joinsIn, checkSinkFile, checkJoinedFile, checkTreeFile};
@@ -8,7 +8,7 @@ use crate::said;
 
 #[no_mangle]
 pub extern "C" fn skeprafter_write_sinks(x: &[i32], y: &[i32], out: &mut [u8], said: &mut [u64; 6])
-    ensures { λ _. ⌜ Writes (checkSinks 512 (now (x .entry)) (now (y .entry))) (sinkFile (now (x .entry)) (now (y .entry))) (now (out .entry)) (now (out .exit)) (now (said .exit)) ⌝ }
+    ensures { λ _. ⌜ Writes (checkSinks 512 (now (x .entry)) (now (y .entry)) (prompt (now (x .entry)))) (sinkFile (now (x .entry)) (now (y .entry))) (now (out .entry)) (now (out .exit)) (now (said .exit)) ⌝ }
 {
     *said = said::of_written(skeprafter::write_sinks(x, y, out));
 }
@@ -21,7 +21,7 @@ pub extern "C" fn skeprafter_write_joined(
     out: &mut [u8],
     said: &mut [u64; 6],
 )
-    ensures { λ _. ⌜ Writes (checkOrder (now (x .entry)) (now (y .entry)) (now (joins .entry))) (joinedFile (now (x .entry)) (now (y .entry)) (now (joins .entry))) (now (out .entry)) (now (out .exit)) (now (said .exit)) ⌝ }
+    ensures { λ _. ⌜ Writes (checkOrder (now (x .entry)) (now (y .entry)) (prompt (now (x .entry))) (now (joins .entry))) (joinedFile (now (x .entry)) (now (y .entry)) (now (joins .entry))) (now (out .entry)) (now (out .exit)) (now (said .exit)) ⌝ }
 {
     *said = said::of_written(skeprafter::write_joined(x, y, joins, out));
 }
@@ -34,7 +34,7 @@ pub extern "C" fn skeprafter_write_tree(
     out: &mut [u8],
     said: &mut [u64; 6],
 )
-    ensures { λ _. ⌜ Writes (checkOrder (now (x .entry)) (now (y .entry)) (now (joins .entry))) (treeFile (now (x .entry)) (now (y .entry)) (now (joins .entry))) (now (out .entry)) (now (out .exit)) (now (said .exit)) ⌝ }
+    ensures { λ _. ⌜ Writes (checkOrder (now (x .entry)) (now (y .entry)) (prompt (now (x .entry))) (now (joins .entry))) (treeFile (now (x .entry)) (now (y .entry)) (now (joins .entry))) (now (out .entry)) (now (out .exit)) (now (said .exit)) ⌝ }
 {
     *said = said::of_written(skeprafter::write_tree(x, y, joins, out));
 }

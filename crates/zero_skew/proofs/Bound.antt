@@ -1,15 +1,13 @@
 -- No zero-skew tree has less wire than its joining order's diameters say.
-use mathlib.Core.Path.{_≡_, sym}
 use mathlib.Core.Logic.{⊎-elim}
 use mathlib.Core.List.{List, [], _∷_, _++_, List·Memᴰ, List·Memᴰ·eq-of-singleton, List·Memᴰ·append-cases}
 use Prim.Native.Nat.{ℕ, _+_, _*_, _≤_}
 use native.Mathlib.Nat.{mul-zero, mul-add, add-zero}
 use native.Mathlib.Omega.{arith}
-use lib.IntN.{ℤ, _-ℤ_, natAbs}
-use Rattle.zero_skew.specs.Plane.{Place, Sinks, dist, scaled}
+use Rattle.zero_skew.specs.Plane.{Sinks, dist, scaled}
 use Rattle.zero_skew.specs.Box.{diameter, apart}
 use Rattle.zero_skew.specs.Tree.{Tree, leaf, join, top, leaves, wire, AtSinks, Reaches, ZeroSkew}
-use Rattle.zero_skew.proofs.Whole.{far, abs-swap, abs-minus, times-abs}
+use Rattle.zero_skew.proofs.Distance.{dist-self, dist-far, dist-swap, dist-scaled}
 use Rattle.zero_skew.proofs.Lemma1.{diam-met, diam-none}
 use Rattle.zero_skew.proofs.Timed.{Hears, Timed, level}
 use Rattle.zero_skew.proofs.Sums.{waits, waits-append}
@@ -18,22 +16,6 @@ use Rattle.zero_skew.proofs.Sums.{waits, waits-append}
 unfoldable pub diameters : Sinks → Tree → ℕ
 diameters s (leaf i p) = 0
 diameters s (join p a l b r) = diameter s (leaves l ++ leaves r) + diameters s l + diameters s r
-
--- ---- the distance
-abs-self : (a : ℤ) → natAbs (a -ℤ a) ≡ 0
-abs-self a = rw (abs-minus a a) (omega arith)
-
-pub dist-self : (p : Place) → dist p p ≡ 0
-dist-self p = omega (arith, abs-self (p .x), abs-self (p .y))
-
-dist-far : (p q r : Place) → dist p r ≤ dist p q + dist q r
-dist-far p q r = omega (arith, far (p .x) (q .x) (r .x), far (p .y) (q .y) (r .y))
-
-dist-swap : (p q : Place) → dist p q ≡ dist q p
-dist-swap p q = omega (arith, abs-swap (p .x) (q .x), abs-swap (p .y) (q .y))
-
-dist-scaled : (k : ℕ) (p q : Place) → dist (scaled k p) (scaled k q) ≡ k * dist p q
-dist-scaled k p q = rw (times-abs k (p .x) (q .x), times-abs k (p .y) (q .y)) (sym (mul-add k _ _))
 
 module _ (s : Sinks) (k total : ℕ) where
   -- from a node to a sink below it: what the clock has left, at the node, is enough for the way and for the sink's own delay

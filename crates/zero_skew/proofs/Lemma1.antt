@@ -1,13 +1,18 @@
--- The diameter of a set of sinks is the greatest distance of two of them (their waits included).
-use mathlib.Core.Path.{_≡_, refl, _∙_}
-use mathlib.Core.Logic.{⊎-elim}
+-- Document 000, Lemma 1: the diameter of a set of sinks is the greatest of how far two of them are apart, their delays included, and of twice the delay of one.
+use mathlib.Core.Path.{_≡_, refl, ap, _∙_}
+use mathlib.Core.Logic.{_⊎_, inl, inr, ⊎-elim}
+use mathlib.Core.Bool.{Bool, true, false}
 use mathlib.Core.List.{List, [], _∷_, List·Memᴰ, List·Memᴰ·head, List·Memᴰ·tail}
-use Prim.Native.Nat.{ℕ, _+_, _≤_, max}
+use Prim.Native.Nat.{ℕ, _+_, _*_, _≤_, _<_, max}
 use native.Mathlib.Omega.{arith}
+use borrow.Author.Tests.{eqb-true, eqb-false}
+use lib.Dec.{eqb}
+use lib.ListN.{length}
 use lib.IntN.{ℤ, pos, _+ℤ_, _-ℤ_, natAbs}
 use Rattle.zero_skew.specs.Plane.{Sinks, dist, u, v}
-use Rattle.zero_skew.specs.Box.{larger, smaller, greatest, least, high, low, width, diameter, apart}
+use Rattle.zero_skew.specs.Box.{larger, smaller, greatest, least, high, low, width, diameter, apart, GreatestApart}
 use Rattle.lists.proofs.Tests.{or-le}
+use Rattle.zero_skew.proofs.Distance.{dist-self}
 use Rattle.zero_skew.proofs.Whole.{_⊑_, tilt, larger-l, larger-r, larger-one, smaller-l, smaller-r, smaller-one, moved-out, in-range}
 
 ⊑-trans : (a b c : ℤ) → a ⊑ b → b ⊑ c → a ⊑ c
@@ -97,3 +102,23 @@ module _ (s : Sinks) where
   diam-within (h ∷ l) m below =
       let (i, j, mi, mj, e) = diam-met h l in
       rw e (diam-over m i j (below i mi) (below j mj))
+
+  own : (i : ℕ) → apart s i i ≡ 2 * s .wait i
+  own i = omega (arith, dist-self (s .at i))
+
+  -- LEMMA 1, with delays
+  pub greatest-apart : (l : List ℕ) → 0 < length l → GreatestApart s l (diameter s l)
+  greatest-apart [] some = absurd (omega arith)
+  greatest-apart (h ∷ l) some =
+      record {
+        of-two = λ i j mi mj r. diam-over (h ∷ l) i j mi mj;
+        of-one = λ i m. omega (arith, own i, diam-over (h ∷ l) i i m m);
+        reached = go (diam-met h l);
+      }
+    where
+      go : Met (h ∷ l) → ((i : ℕ) × (j : ℕ) × List·Memᴰ i (h ∷ l) × List·Memᴰ j (h ∷ l) × (i ≡ j → ⊥) × (diameter s (h ∷ l) ≡ apart s i j)) ⊎ ((i : ℕ) × List·Memᴰ i (h ∷ l) × (diameter s (h ∷ l) ≡ 2 * s .wait i))
+      go (i, j, mi, mj, e) = pick (eqb i j) refl
+        where
+          pick : (t : Bool) → eqb i j ≡ t → ((i : ℕ) × (j : ℕ) × List·Memᴰ i (h ∷ l) × List·Memᴰ j (h ∷ l) × (i ≡ j → ⊥) × (diameter s (h ∷ l) ≡ apart s i j)) ⊎ ((i : ℕ) × List·Memᴰ i (h ∷ l) × (diameter s (h ∷ l) ≡ 2 * s .wait i))
+          pick true q = inr (j, mj, e ∙ ap (λ (k : ℕ). apart s k j) (eqb-true i j q) ∙ own j)
+          pick false q = inl (i, j, mi, mj, eqb-false i j q, e)

@@ -1,6 +1,7 @@
 -- The laws of the mathematics: the plane and its boxes, the bound for a joining order, deferred-merge embedding, and what follows of document 01's embedding.
 pub mod Whole
 pub mod Places
+pub mod Distance
 pub mod Lemma1
 pub mod Hull
 pub mod Timed

@@ -13,7 +13,7 @@ use Rattle.zero_skew.specs.Region.{In, Inside}
 use Rattle.zero_skew.specs.DeferredMerge.{range, segment}
 use Rattle.zero_skew.proofs.Whole.{up, down, _⊑_, add-is, minus-is, abs-minus, to-le, of-le, nearest-in, nearest-gap, quarters-near}
 use Rattle.zero_skew.proofs.Lemma1.{greatest-within, least-within, diam-met, diam-within}
-use Rattle.zero_skew.proofs.Bound.{dist-self}
+use Rattle.zero_skew.proofs.Distance.{dist-self}
 
 -- the ends of a segment, by naturals
 pub from-is : (h : ℤ) (d : ℕ) → up (twice h -ℤ pos d) + (2 * down h + d) ≡ down (twice h -ℤ pos d) + 2 * up h

@@ -233,12 +233,6 @@ smaller-is a b z p q e =
     (⊎-elim (λ d. omega (arith, smaller-l a b)) (λ d. omega (arith, smaller-r a b)) e)
     (⊎-elim (λ d. rw d p) (λ d. rw d q) (smaller-one a b))
 
-pub plus-none : (z : ℤ) → z +ℤ pos 0 ≡ z
-plus-none z = same (z +ℤ pos 0) z (omega (arith, add-is z (pos 0)))
-
-pub minus-none : (z : ℤ) → z -ℤ pos 0 ≡ z
-minus-none z = same (z -ℤ pos 0) z (omega (arith, minus-is z (pos 0)))
-
 -- ---- the nearest value of a range
 pub nearest-in : (a b z : ℤ) → a ⊑ b → (a ⊑ nearest a b z) × (nearest a b z ⊑ b)
 nearest-in a b z ab = (

@@ -1,7 +1,9 @@
 -- Document 01, "Boxes and diameters".
+use mathlib.Core.Path.{_≡_}
 use mathlib.Core.Bool.{cond}
-use mathlib.Core.List.{List, [], _∷_}
-use Prim.Native.Nat.{ℕ, _+_, max}
+use mathlib.Core.Logic.{_⊎_}
+use mathlib.Core.List.{List, [], _∷_, List·Memᴰ}
+use Prim.Native.Nat.{ℕ, _+_, _*_, _≤_, max}
 use lib.IntN.{ℤ, pos, _+ℤ_, _-ℤ_, natAbs}
 use lib.Signed.{leZ}
 use Rattle.zero_skew.specs.Plane.{Sinks, u, v, dist}
@@ -65,3 +67,9 @@ hull a b =
 -- how far two sinks are apart, their own delays included
 abbrev pub apart : Sinks → ℕ → ℕ → ℕ
 apart s i j = dist (s .at i) (s .at j) + (s .wait i + s .wait j)
+
+-- Document 000, Lemma 1, with delays: d is the greatest of how far two different sinks of l are apart and of twice the delay of one, and it is reached
+pub record GreatestApart (s : Sinks) (l : List ℕ) (d : ℕ) : Type 0 where
+  pub of-two : (i j : ℕ) → List·Memᴰ i l → List·Memᴰ j l → (i ≡ j → ⊥) → apart s i j ≤ d
+  pub of-one : (i : ℕ) → List·Memᴰ i l → 2 * s .wait i ≤ d
+  pub reached : ((i : ℕ) × (j : ℕ) × List·Memᴰ i l × List·Memᴰ j l × (i ≡ j → ⊥) × (d ≡ apart s i j)) ⊎ ((i : ℕ) × List·Memᴰ i l × (d ≡ 2 * s .wait i))

@@ -5,6 +5,7 @@ mod sides;
 
 use crate::compare::options::number;
 use crate::generate::{Random, SinkKind};
+use crate::plane::MOST_DELAY;
 use sides::{Input, Side, Work};
 use std::time::{Duration, Instant};
 
@@ -48,7 +49,7 @@ pub fn run(seed: u64) {
     };
     println!(
         "Measured: {build}, one process, {INPUTS} inputs a line, uniform random by seed {seed} \
-         unless named otherwise; all sides in turn on the same input, the one that begins \
+         and without delay unless named otherwise; delays uniform random; all sides in turn on the same input, the one that begins \
          changing from run to run; buffers not cleared between runs; ratio of the median times. \
          A run is one call, and {MANY} calls for the check of sinks; times are those of one call. \
          The peer is C at -O3, tuned for speed alone.\n"
@@ -59,22 +60,29 @@ pub fn run(seed: u64) {
     );
     println!("|---|---:|---:|---:|---:|---:|---:|---:|");
     let line = |name: &str, n, calls, sides: &[Side]| {
-        let measured = measure(seed, SinkKind::Uniform, n, calls, sides);
+        let measured = measure(seed, SinkKind::Uniform, n, 0, calls, sides);
         println!("{}", measured.row(name, n));
+    };
+    let delayed = |name: &str, n, sides: &[Side]| {
+        let measured = measure(seed, SinkKind::Uniform, n, MOST_DELAY, 1, sides);
+        println!("{}", measured.row(&format!("{name}, delays"), n));
     };
     line("check of sinks", 64, MANY, &sides::CHECK);
     line("check of sinks", 512, MANY, &sides::CHECK);
     line("embed", 512, 1, &sides::EMBED);
+    delayed("embed", 512, &sides::EMBED);
     line("search", 8, 1, &sides::SEARCH);
     line("search", 10, 1, &sides::SEARCH);
     line("search", 12, 1, &sides::SEARCH);
+    delayed("search", 12, &sides::SEARCH);
     line("read a tree file", 512, 1, &sides::READ);
     line("write a tree file", 512, 1, &sides::WRITE);
     line("join: uniform", 64, 1, &sides::JOIN);
+    delayed("join: uniform", 256, &sides::JOIN);
     let mut growths = vec![];
     for (input, kind) in JOINED {
         let [half, full] = [256, 512].map(|n| {
-            let measured = measure(seed, kind, n, 1, &sides::JOIN);
+            let measured = measure(seed, kind, n, 0, 1, &sides::JOIN);
             println!("{}", measured.row(&format!("join: {input}"), n));
             measured
         });
@@ -117,11 +125,23 @@ impl Measured {
     }
 }
 
-/// Times all sides on inputs of one kind, with so many calls in a timed run.
-fn measure(seed: u64, kind: SinkKind, n: usize, calls: u32, sides: &[Side]) -> Measured {
+/// Times all sides on inputs of one kind with delays up to `most_delay`, with
+/// so many calls in a timed run.
+fn measure(
+    seed: u64,
+    kind: SinkKind,
+    n: usize,
+    most_delay: u32,
+    calls: u32,
+    sides: &[Side],
+) -> Measured {
     let mut random = Random::new(seed);
     let draw = |_| Input::draw(&mut random, kind, n);
-    let inputs: Vec<Input> = (0..INPUTS).map(draw).collect();
+    let mut inputs: Vec<Input> = (0..INPUTS).map(draw).collect();
+    // Drawn last, so that the sinks are the same with and without delays.
+    for input in &mut inputs {
+        input.delay(&mut random, most_delay);
+    }
     let mut works: Vec<Work> = sides.iter().map(|_| Work::new(n)).collect();
     let mut times = vec![vec![]; sides.len()];
     let start = Instant::now();
@@ -199,19 +219,25 @@ mod tests {
         assert_eq!(full.growth("call", &full), "| call | 1.00 | 1.00 | 1.00 |");
     }
 
-    /// The times are nobody's business here, but that the sides agree is.
+    /// The times are nobody's business here, but that the sides agree is:
+    /// without delays, with small ones, so that many diameters tie, and with
+    /// any.
     fn agree(random: &mut Random, kind: SinkKind, n: usize, sides: &[Side]) {
-        let input = Input::draw(random, kind, n);
-        let mut works: Vec<Work> = sides.iter().map(|_| Work::new(n)).collect();
-        assert_eq!(
-            run_sides(sides, n, 1, &input, &mut works).len(),
-            sides.len()
-        );
+        let mut input = Input::draw(random, kind, n);
+        for most_delay in [0, 3, MOST_DELAY] {
+            input.delay(random, most_delay);
+            let mut works: Vec<Work> = sides.iter().map(|_| Work::new(n)).collect();
+            assert_eq!(
+                run_sides(sides, n, 1, &input, &mut works).len(),
+                sides.len()
+            );
+        }
     }
 
     #[test]
     fn all_sides_agree_on_every_kind() {
         let mut random = Random::new(91);
+        agree(&mut random, SinkKind::Uniform, 512, &sides::JOIN);
         for kind in SinkKind::GOOD {
             agree(&mut random, kind, 512, &sides::EMBED);
             for n in (1..70).chain([256]) {

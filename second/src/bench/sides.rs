@@ -25,18 +25,34 @@ pub const WRITE: [Side; 2] = [proved_write, reference_write];
 pub struct Input {
     x: Vec<i32>,
     y: Vec<i32>,
+    delays: Vec<u32>,
     joins: Vec<u16>,
     file: Vec<u8>,
 }
 
 impl Input {
-    /// Sinks of the given kind with any joining order, and the file of both.
+    /// Sinks of the given kind without delay, with any joining order, and the
+    /// file of both.
     pub fn draw(random: &mut Random, kind: SinkKind, n: usize) -> Input {
         let (x, y) = sinks(random, kind, n);
         let joins = good_joins(random, n);
         let mut file = vec![0; Kind::Tree.file_length(n)];
         assert_eq!(write_tree(&x, &y, &joins, &mut file), Ok(file.len()));
-        Input { x, y, joins, file }
+        let delays = vec![0; n];
+        Input {
+            x,
+            y,
+            delays,
+            joins,
+            file,
+        }
+    }
+
+    /// Gives each sink any delay up to `most`; the file holds none of them.
+    pub fn delay(&mut self, random: &mut Random, most: u32) {
+        for delay in &mut self.delays {
+            *delay = random.below(most as usize + 1) as u32;
+        }
     }
 }
 
@@ -95,51 +111,53 @@ fn reference_check(input: &Input, _work: &mut Work) -> u64 {
 
 fn proved_embed(input: &Input, work: &mut Work) -> u64 {
     let (_, _, lent) = work.tree();
-    let said = proved::embed(&input.x, &input.y, &input.joins, lent);
+    let said = proved::embed(&input.x, &input.y, &input.delays, &input.joins, lent);
     said.map_or(u64::MAX, |said| said.value)
 }
 
 fn reference_embed(input: &Input, work: &mut Work) -> u64 {
     let (_, _, lent) = work.tree();
-    let total = embed::embed(&input.x, &input.y, &input.joins, lent);
+    let total = embed::embed(&input.x, &input.y, &input.delays, &input.joins, lent);
     total.map_or(u64::MAX, u64::from)
 }
 
 fn peer_embed(input: &Input, work: &mut Work) -> u64 {
     let (_, _, lent) = work.tree();
-    peers::embed(&input.x, &input.y, &input.joins, lent)
+    peers::embed(&input.x, &input.y, &input.delays, &input.joins, lent)
 }
 
 /// The call says nothing on acceptance; the pairs are compared all the same.
 fn proved_join(input: &Input, work: &mut Work) -> u64 {
-    let said = proved::join_nearest(&input.x, &input.y, &mut work.joins);
+    let said = proved::join_nearest(&input.x, &input.y, &input.delays, &mut work.joins);
     said.map_or(u64::MAX, |said| said.value)
 }
 
 fn reference_join(input: &Input, work: &mut Work) -> u64 {
-    let pairs = least::join_least(&input.x, &input.y, &mut work.joins);
+    let pairs = least::join_least(&input.x, &input.y, &input.delays, &mut work.joins);
     pairs.map_or(u64::MAX, |_| 0)
 }
 
 fn peer_join(input: &Input, work: &mut Work) -> u64 {
-    peers::join(&input.x, &input.y, &mut work.joins)
+    peers::join(&input.x, &input.y, &input.delays, &mut work.joins)
 }
 
 fn proved_search(input: &Input, work: &mut Work) -> u64 {
+    let Input { x, y, delays, .. } = input;
     let (table, joins, lent) = work.tree();
-    let said = proved::search(&input.x, &input.y, u64::MAX, table, joins, lent);
+    let said = proved::search(x, y, delays, u64::MAX, table, joins, lent);
     said.map_or(u64::MAX, |said| said.value)
 }
 
 fn reference_search(input: &Input, work: &mut Work) -> u64 {
+    let Input { x, y, delays, .. } = input;
     let (table, joins, lent) = work.tree();
-    let found = search::search(&input.x, &input.y, u64::MAX, table, joins, lent);
+    let found = search::search(x, y, delays, u64::MAX, table, joins, lent);
     found.map_or(u64::MAX, |found| u64::from(found.total))
 }
 
 fn peer_search(input: &Input, work: &mut Work) -> u64 {
     let (table, joins, lent) = work.tree();
-    peers::search(&input.x, &input.y, table, joins, lent)
+    peers::search(&input.x, &input.y, &input.delays, table, joins, lent)
 }
 
 fn proved_read(input: &Input, work: &mut Work) -> u64 {

@@ -1,11 +1,175 @@
-//! Sinks and joining orders for the cases, good and bad.
+//! Sinks, delays and joining orders for the cases, good and bad.
 
 use crate::generate::{
-    damaged_joins, good_joins, put_together, sinks, JoinDamage, Random, SinkKind,
+    damaged_joins, delays, good_joins, put_long_delays, put_together, sinks, DelayKind, JoinDamage,
+    Random, SinkKind, LONG_DELAYS,
 };
+use crate::plane::{MOST_DELAY, REACH};
 
 /// Lists of x and y, not always of the same length.
 pub type Lists = (Vec<i32>, Vec<i32>);
+
+/// Lists of x, y and delays, not always of the same length.
+#[derive(Clone, Debug)]
+pub struct Pins {
+    /// Grid x.
+    pub x: Vec<i32>,
+    /// Grid y.
+    pub y: Vec<i32>,
+    /// Delays.
+    pub delays: Vec<u32>,
+}
+
+impl Pins {
+    fn new((x, y): Lists, delays: Vec<u32>) -> Pins {
+        Pins { x, y, delays }
+    }
+
+    /// The sinks with delays of the given kind, as many as there are x.
+    pub fn of_kind(random: &mut Random, lists: Lists, kind: DelayKind) -> Pins {
+        let waits = delays(random, kind, &lists.0, &lists.1);
+        Pins::new(lists, waits)
+    }
+
+    /// The sinks with good delays, every third time or so with none at all.
+    pub fn delayed(random: &mut Random, lists: Lists) -> Pins {
+        let any = random.pick(&DelayKind::GOOD);
+        let kind = random.pick(&[DelayKind::Zero, any, any, any]);
+        Pins::of_kind(random, lists, kind)
+    }
+}
+
+/// Good sinks of one of the kinds, with good delays.
+pub fn good_pins(random: &mut Random, n: usize) -> Pins {
+    let lists = good(random, n);
+    Pins::delayed(random, lists)
+}
+
+/// Good sinks of every kind, with good delays.
+pub fn every_good_pins(random: &mut Random, n: usize) -> Vec<Pins> {
+    let lists = every_good(random, n);
+    lists
+        .into_iter()
+        .map(|lists| Pins::delayed(random, lists))
+        .collect()
+}
+
+/// Good sinks with good delays of every kind.
+pub fn every_delay(random: &mut Random, n: usize) -> Vec<Pins> {
+    let pins = |kind| {
+        let lists = good(random, n);
+        Pins::of_kind(random, lists, kind)
+    };
+    DelayKind::GOOD.into_iter().map(pins).collect()
+}
+
+/// Lists about `n` sinks that are mostly refused: for their places, for their
+/// delays, for both, or for the lengths of the lists, with bad places and
+/// delays in some of these as well.
+pub fn bad_pins(random: &mut Random, n: usize) -> Vec<Pins> {
+    let mut all: Vec<Pins> = bad(random, n)
+        .into_iter()
+        .map(|lists| Pins::delayed(random, lists))
+        .collect();
+    let good = good(random, n);
+    all.push(Pins::of_kind(random, good, DelayKind::OutOfRange));
+    for lists in bad(random, n) {
+        all.push(Pins::of_kind(random, lists, DelayKind::OutOfRange));
+    }
+    all.push(one_sink_outside_twice(random, n));
+    all.extend(two_sinks_outside(random, n));
+    all.push(unlike_delays(random, n));
+    all.push(as_long_as_the_other(random, n));
+    all
+}
+
+/// A place and a delay outside their ranges at the same sink.
+fn one_sink_outside_twice(random: &mut Random, n: usize) -> Pins {
+    let mut pins = good_pins(random, n);
+    let sink = random.below(n);
+    put_outside(random, &mut pins, sink);
+    pins.delays[sink] = random.pick(&LONG_DELAYS);
+    pins
+}
+
+/// A delay outside its range at a lower sink than a place outside, and at a
+/// higher one; at one sink where there is no other.
+fn two_sinks_outside(random: &mut Random, n: usize) -> [Pins; 2] {
+    let lower = random.below(n);
+    let higher = lower + random.below(n - lower);
+    [(lower, higher), (higher, lower)].map(|(delayed, placed)| {
+        let mut pins = good_pins(random, n);
+        pins.delays[delayed] = random.pick(&LONG_DELAYS);
+        put_outside(random, &mut pins, placed);
+        pins
+    })
+}
+
+/// Puts a sink just outside the range of places, or far outside.
+fn put_outside(random: &mut Random, pins: &mut Pins, sink: usize) {
+    let outside = random.pick(&[REACH + 1, -REACH - 1, i32::MIN, i32::MAX]);
+    match random.below(2) {
+        0 => pins.x[sink] = outside,
+        _ => pins.y[sink] = outside,
+    }
+}
+
+/// A list of delays that is empty, shorter or longer than the others, some
+/// with places or delays outside their range.
+fn unlike_delays(random: &mut Random, n: usize) -> Pins {
+    let mut pins = good_pins(random, n);
+    if random.below(2) == 0 {
+        put_outside(random, &mut pins, n - 1);
+    }
+    if random.below(2) == 0 {
+        put_long_delays(random, &mut pins.delays);
+    }
+    change_length(random, &mut pins.delays);
+    pins
+}
+
+fn change_length(random: &mut Random, delays: &mut Vec<u32>) {
+    match random.below(4) {
+        0 if !delays.is_empty() => delays.clear(),
+        1 if !delays.is_empty() => delays.truncate(delays.len() - 1),
+        2 => delays.push(0),
+        _ => delays.extend([0, u32::MAX]),
+    }
+}
+
+/// Lists of x and y of unlike length, and delays as long as that of y.
+fn as_long_as_the_other(random: &mut Random, n: usize) -> Pins {
+    let lists = unlike(random, n);
+    let delays = vec![random.pick(&[0, 1, MOST_DELAY, u32::MAX]); lists.1.len()];
+    Pins::new(lists, delays)
+}
+
+/// Odd counts of sinks with good delays, then with a list of delays that has
+/// another length or is out of range.
+pub fn odd_pins(random: &mut Random) -> Vec<Pins> {
+    let mut all = vec![];
+    for lists in odd_counts(random) {
+        let pins = Pins::delayed(random, lists.clone());
+        let mut other = pins.clone();
+        match random.below(3) {
+            0 => put_long_delays(random, &mut other.delays),
+            _ => change_length(random, &mut other.delays),
+        }
+        all.extend([pins, other]);
+    }
+    let none = (vec![], vec![]);
+    all.push(Pins::new(none.clone(), vec![0]));
+    all.push(Pins::new(none, vec![u32::MAX; 2]));
+    all.push(Pins::new((vec![], vec![0]), vec![0]));
+    all.push(Pins::new((vec![0], vec![0]), vec![]));
+    for (n, waits) in [(512, 513), (513, 512), (513, 513), (512, 0)] {
+        let lists = any_number(random, n);
+        all.push(Pins::new(lists, vec![random.pick(&LONG_DELAYS); waits]));
+    }
+    let lists = any_number(random, 512);
+    all.push(Pins::of_kind(random, lists, DelayKind::Greatest));
+    all
+}
 
 /// Sinks that are accepted, spread in one of the good ways.
 pub fn good(random: &mut Random, n: usize) -> Lists {

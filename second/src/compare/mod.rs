@@ -4,6 +4,7 @@
 //! that a run is the same whenever seed and count are, and that a new case
 //! leaves the inputs of the others as they were.
 
+mod arrival;
 mod draw;
 mod files;
 mod lent;
@@ -25,7 +26,13 @@ type Case = (&'static str, fn(&mut Session, &mut Random));
 pub fn run(options: Options) -> bool {
     let seed = options.seed;
     let mut session = Session::new(options);
-    let families = [plane::CASES, trees::CASES, files::CASES, lines::CASES];
+    let families = [
+        plane::CASES,
+        trees::CASES,
+        arrival::CASES,
+        files::CASES,
+        lines::CASES,
+    ];
     let cases: Vec<&Case> = families.into_iter().flatten().collect();
     for round in 0.. {
         for (name, draw_and_check) in &cases {

@@ -1,6 +1,8 @@
 //! Calls with buffers of just the right size, shared by the tests.
 #![allow(dead_code)]
 
+pub mod slow;
+
 use second::embed::{embed, Lent};
 use second::plane::Doubled;
 use second::refusal::Refusal;
@@ -42,13 +44,19 @@ impl Answer {
     }
 
     /// Searches into these buffers.
-    pub fn search(&mut self, x: &[i32], y: &[i32], budget: u64) -> Result<(), Refusal> {
+    pub fn search(
+        &mut self,
+        x: &[i32],
+        y: &[i32],
+        delays: &[u32],
+        budget: u64,
+    ) -> Result<(), Refusal> {
         let lent = Lent {
             u: &mut self.u,
             v: &mut self.v,
             wires: &mut self.wires,
         };
-        let found = search(x, y, budget, &mut self.table, &mut self.pairs, lent)?;
+        let found = search(x, y, delays, budget, &mut self.table, &mut self.pairs, lent)?;
         self.total = found.total;
         self.steps = found.steps;
         self.proven = found.proven;
@@ -56,21 +64,46 @@ impl Answer {
     }
 }
 
-/// The search's answer in buffers of just the right size.
+/// The delays of sinks that have none.
+pub fn zeros(x: &[i32]) -> Vec<u32> {
+    vec![0; x.len()]
+}
+
+/// The search's answer in buffers of just the right size, without delays.
 pub fn searched(x: &[i32], y: &[i32], budget: u64) -> Result<Answer, Refusal> {
+    delayed_searched(x, y, &zeros(x), budget)
+}
+
+/// The search's answer in buffers of just the right size.
+pub fn delayed_searched(
+    x: &[i32],
+    y: &[i32],
+    delays: &[u32],
+    budget: u64,
+) -> Result<Answer, Refusal> {
     let mut answer = Answer::with_room(x.len(), 0);
-    answer.search(x, y, budget)?;
+    answer.search(x, y, delays, budget)?;
     Ok(answer)
 }
 
-/// The embedding's answer in buffers of just the right size.
+/// The embedding's answer in buffers of just the right size, without delays.
 pub fn treed(x: &[i32], y: &[i32], joins: &[u16]) -> Result<Answer, Refusal> {
+    delayed_treed(x, y, &zeros(x), joins)
+}
+
+/// The embedding's answer in buffers of just the right size.
+pub fn delayed_treed(
+    x: &[i32],
+    y: &[i32],
+    delays: &[u32],
+    joins: &[u16],
+) -> Result<Answer, Refusal> {
     let mut answer = Answer::with_room(x.len(), 0);
     let lent = Lent {
         u: &mut answer.u,
         v: &mut answer.v,
         wires: &mut answer.wires,
     };
-    answer.total = embed(x, y, joins, lent)?;
+    answer.total = embed(x, y, delays, joins, lent)?;
     Ok(answer)
 }

@@ -21,11 +21,11 @@ returns c = rw (sym (c .before .before .before .check-sinks .ensures) ∙ c .bef
 enum-told : tie.Need-enum-told
 enum-told c = search needs
 
-fine : (c : tie.After-enum-told) → checkSinks 512 (now (c .before .before .before .before .args .xs)) (now (c .before .before .before .before .args .ys)) ≡ Fine
+fine : (c : tie.After-enum-told) → checkSinks 512 (now (c .before .before .before .before .before .args .xs)) (now (c .before .before .before .before .before .args .ys)) (now (c .before .before .before .before .before .args .delays)) ≡ Fine
 fine c = sym (c .before .before .check-sinks .ensures) ∙ c .enum-told .given .1
 
 check-joins-requires : tie.Need-check-joins-requires
-check-joins-requires c κs = let m = accepted 512 _ _ (fine c) in (m .some, m .few)
+check-joins-requires c κs = let m = accepted 512 _ _ _ (fine c) in (m .some, m .few)
 
 returns-2 : tie.Need-returns-2
 unfolding checkOrder

@@ -4,7 +4,8 @@ use native.Mathlib.Omega.{arith}
 use borrow.Author.Needs.{needs}
 use Rattle.plane.specs.declared.refusal.Checked.the-variants.{Fine}
 use Rattle.embedding.specs.Embedding.{checkOrder, answer}
-use Rattle.embedding.proofs.Accepted.{order-sound, has-room}
+use Rattle.embedding.proofs.Accepted.{has-room}
+use Rattle.embedding.proofs.Bounded.{order-sound}
 use Rattle.embedding.proofs.embed.embed.Statement.{statement}
 use Rattle.embedding.proofs.embed.embed.Tie as tie
 
@@ -27,11 +28,11 @@ mul-check-room : tie.Need-mul-check-room
 mul-check-room c = search needs
 
 -- what the two checks leave
-order-fine : (c : tie.After-enum-told) → checkOrder (now (c .before .before .before .before .before .args .xs)) (now (c .before .before .before .before .before .args .ys)) (now (c .before .before .before .before .before .args .js)) ≡ Fine
+order-fine : (c : tie.After-enum-told) → checkOrder (now (c .before .before .before .before .before .before .args .xs)) (now (c .before .before .before .before .before .before .args .ys)) (now (c .before .before .before .before .before .before .args .delays)) (now (c .before .before .before .before .before .before .args .js)) ≡ Fine
 order-fine c = sym (c .before .before .check-order .ensures) ∙ c .enum-told .given .1
 
 sub-check-room : tie.Need-sub-check-room
-sub-check-room c = omega (arith, order-sound _ _ _ (order-fine c) .joins .some)
+sub-check-room c = omega (arith, order-sound _ _ _ _ (order-fine c) .joins .some)
 
 check-room-requires : tie.Need-check-room-requires
 check-room-requires c κs = search needs
@@ -52,7 +53,7 @@ embed-sound-requires : tie.Need-embed-sound-requires
 embed-sound-requires c κs =
     let p = c .before .before .before in
     let (a, b, e) = has-room _ _ _ _ (sym (p .before .before .check-room .ensures) ∙ p .enum-told2 .given .1) in
-    record { sound = order-sound _ _ _ (order-fine (p .before .before .before)); room-u = a; room-v = b; room-w = e }
+    record { sound = order-sound _ _ _ _ (order-fine (p .before .before .before)); room-u = a; room-v = b; room-w = e }
 
 same-length : tie.Need-same-length
 same-length c = search needs

@@ -2,7 +2,7 @@ use denote.Ref.{now}
 use Prim.Native.Nat.{_≤_}
 use native.Mathlib.Omega.{arith}
 use borrow.Author.Needs.{needs}
-use lib.ListN.{length, getD-replicate}
+use lib.ListN.{length}
 use Rattle.embedding.proofs.embed.embed_few.Statement.{statement}
 use Rattle.embedding.proofs.embed.embed_few.Tie as tie
 
@@ -17,9 +17,9 @@ slice-aggregate-embed-in-3 c = search needs
 
 embed-in-requires : tie.Need-embed-in-requires
 embed-in-requires c κs =
-    let n = length (now (c .before .before .before .before .before .before .before .before .args .xs)) in
-    let few : n ≤ 12 = c .before .before .before .before .before .before .before .before .pre .1 in
-    (c .before .before .before .before .before .before .before .before .pre .0, record { boxes = omega arith; diameters = omega arith; parents = omega arith }, λ k h. getD-replicate 23 k 0 0 (omega arith))
+    let n = length (now (c .before .before .before .before .before .before .before .before .before .args .xs)) in
+    let few : n ≤ 12 = c .before .before .before .before .before .before .before .before .before .pre .1 in
+    (c .before .before .before .before .before .before .before .before .before .pre .0, record { boxes = omega arith; diameters = omega arith; parents = omega arith })
 
 same-length : tie.Need-same-length
 same-length c = search needs

@@ -5,6 +5,7 @@ use Prim.Native.Nat.{ℕ}
 use native.Mathlib.Omega.{arith}
 use borrow.Author.Needs.{needs}
 use Rattle.lists.specs.Grow.{front}
+use Rattle.plane.proofs.Checks.{placed}
 use Rattle.embedding.proofs.Whole.{all-sized, climbs, wires-are, places-are}
 use Rattle.embedding.proofs.embed.embed_in.Statement.{statement}
 use Rattle.embedding.proofs.embed.embed_in.Tie as tie
@@ -13,15 +14,15 @@ put-nodes-requires : tie.Need-put-nodes-requires
 put-nodes-requires c κs = search needs
 
 join-places-requires : tie.Need-join-places-requires
-join-places-requires c κs = (all-sized (c .before .before .before .before .before .before .before .before .before .before .before .put-nodes .ensures .0), c .before .before .before .before .before .before .before .before .before .before .before .before .before .before .before .before .before .before .before .before .pre .0 .room-u, c .before .before .before .before .before .before .before .before .before .before .before .before .before .before .before .before .before .before .before .before .pre .0 .room-v)
+join-places-requires c κs = (all-sized (c .before .before .before .before .before .before .before .before .before .before .before .put-nodes .ensures .0), c .before .before .before .before .before .before .before .before .before .before .before .before .before .before .before .before .before .before .before .before .before .pre .0 .room-u, c .before .before .before .before .before .before .before .before .before .before .before .before .before .before .before .before .before .before .before .before .before .pre .0 .room-v)
 
 sink-places-requires : tie.Need-sink-places-requires
 sink-places-requires c κs =
-    let r = c .before .before .before .before .before .before .before .before .before .before .before .before .before .before .before .before .before .before .before .before .before .before .before .before .before .pre .0 in
-    (r .sound .sinks, omega (arith, r .sound .joins .some, r .room-u, c .before .before .before .us .given), omega (arith, r .sound .joins .some, r .room-v, c .before .before .vs .given))
+    let r = c .before .before .before .before .before .before .before .before .before .before .before .before .before .before .before .before .before .before .before .before .before .before .before .before .before .before .pre .0 in
+    (placed (r .sound .sinks), omega (arith, r .sound .joins .some, r .room-u, c .before .before .before .us .given), omega (arith, r .sound .joins .some, r .room-v, c .before .before .vs .given))
 
 write-wires-requires : tie.Need-write-wires-requires
-write-wires-requires c κs = (climbs (c .before .before .before .before .before .before .before .before .before .before .before .before .before .before .before .before .before .before .before .before .before .before .put-nodes .ensures .0), c .before .before .before .before .before .before .before .before .before .before .before .before .before .before .before .before .before .before .before .before .before .before .before .before .before .before .before .before .before .before .before .pre .0 .room-w)
+write-wires-requires c κs = (climbs (c .before .before .before .before .before .before .before .before .before .before .before .before .before .before .before .before .before .before .before .before .before .before .put-nodes .ensures .0), c .before .before .before .before .before .before .before .before .before .before .before .before .before .before .before .before .before .before .before .before .before .before .before .before .before .before .before .before .before .before .before .before .pre .0 .room-w)
 
 same-length : tie.Need-same-length
 same-length c = search needs
@@ -43,10 +44,10 @@ same-length-6 c = search needs
 
 returns : tie.Need-returns
 returns c =
-    let a = c .before .before .before .before .before .before .before .before .before .before .before .before .before .before .before .before .before .before .before .before .before .before .before .before .before .before .before .before .before .before .before .before .before .before .args in
-    let r = c .before .before .before .before .before .before .before .before .before .before .before .before .before .before .before .before .before .before .before .before .before .before .before .before .before .before .before .before .before .before .before .before .before .before .pre .0 in
+    let a = c .before .before .before .before .before .before .before .before .before .before .before .before .before .before .before .before .before .before .before .before .before .before .before .before .before .before .before .before .before .before .before .before .before .before .before .args in
+    let r = c .before .before .before .before .before .before .before .before .before .before .before .before .before .before .before .before .before .before .before .before .before .before .before .before .before .before .before .before .before .before .before .before .before .before .before .pre .0 in
     let m = c .before .before .before .before .before .before .before .before .before .before .before .before .before .before .before .before .before .before .before .before .before .before .before .before .before .put-nodes .ensures .0 in
-    let p = places-are (r .sound .sinks) m (r .room-u) (r .room-v) (c .before .before .before .before .before .before .before .us2 .given ∙ c .before .before .before .before .before .before .before .before .before .before .before .before .us .given) (c .before .before .before .before .before .before .vs2 .given ∙ c .before .before .before .before .before .before .before .before .before .before .before .vs .given) (c .before .before .before .before .before .before .before .before .before .before .before .before .before .join-places .ensures) (c .before .before .before .before .before .before .before .before .sink-places .ensures) in
+    let p = places-are (now (a .delays)) (placed (r .sound .sinks)) m (r .room-u) (r .room-v) (c .before .before .before .before .before .before .before .us2 .given ∙ c .before .before .before .before .before .before .before .before .before .before .before .before .us .given) (c .before .before .before .before .before .before .vs2 .given ∙ c .before .before .before .before .before .before .before .before .before .before .before .vs .given) (c .before .before .before .before .before .before .before .before .before .before .before .before .before .join-places .ensures) (c .before .before .before .before .before .before .before .before .sink-places .ensures) in
     record {
       sums = c .before .before .before .before .before .before .before .before .before .before .before .before .before .before .before .before .before .before .before .before .before .before .before .before .before .put-nodes .ensures .1;
       writes-u = p .0;

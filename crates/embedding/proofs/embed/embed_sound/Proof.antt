@@ -2,7 +2,7 @@ use denote.Ref.{now}
 use Prim.Native.Nat.{_≤_}
 use native.Mathlib.Omega.{arith}
 use borrow.Author.Needs.{needs}
-use lib.ListN.{length, getD-replicate}
+use lib.ListN.{length}
 use Rattle.embedding.proofs.embed.embed_sound.Statement.{statement}
 use Rattle.embedding.proofs.embed.embed_sound.Tie as tie
 
@@ -32,9 +32,9 @@ slice-aggregate-embed-in-3 c = search needs
 
 embed-in-requires : tie.Need-embed-in-requires
 embed-in-requires c κs =
-    let n = length (now (c .before .before .before .before .before .before .before .before .before .args .xs)) in
-    let few : n ≤ 512 = c .before .before .before .before .before .before .before .before .before .pre .sound .joins .few in
-    (c .before .before .before .before .before .before .before .before .before .pre, record { boxes = omega arith; diameters = omega arith; parents = omega arith }, λ k h. getD-replicate 1023 k 0 0 (omega arith))
+    let n = length (now (c .before .before .before .before .before .before .before .before .before .before .args .xs)) in
+    let few : n ≤ 512 = c .before .before .before .before .before .before .before .before .before .before .pre .sound .joins .few in
+    (c .before .before .before .before .before .before .before .before .before .before .pre, record { boxes = omega arith; diameters = omega arith; parents = omega arith })
 
 same-length-4 : tie.Need-same-length-4
 same-length-4 c = search needs

@@ -1,5 +1,5 @@
 use mathlib.Core.Path.{_≡_, refl, _∙_}
-use Prim.Native.Nat.{_-_, _≤_, _<_}
+use Prim.Native.Nat.{_-_, _≤_}
 use native.Mathlib.Omega.{arith}
 use borrow.Author.Needs.{needs}
 use lib.ListN.{length}
@@ -23,10 +23,11 @@ loop-holds c = (omega arith, refl, refl, refl, joins-begin (c .before .before .b
 put-join-requires : tie.Need-put-join-requires Inv-loop μ-loop
 put-join-requires c κs = (c .before .before .before .before .before .before .before .before .before .pre .0, c .before .before .before .loop-test .taken, c .before .before .before .before .loop .inv .4 .up)
 
+wide-requires : tie.Need-wide-requires Inv-loop μ-loop
+wide-requires c κs = search needs
+
 add-sum : tie.Need-add-sum Inv-loop μ-loop
-add-sum c =
-    let h : c .before .before .before .before .before .before .before .before .before .before .before .loop .i < c .before .before .before .before .before .before .before .before .before .before .before .before .before .before .before .before .args .n - 1 = c .before .before .before .before .before .before .before .before .before .before .loop-test .taken in
-    omega (arith, c .before .before .before .before .before .before .before .before .before .before .before .before .before .before .before .before .pre .0 .few, joins-more h (c .before .before .before .before .before .before .before .before .before .before .before .loop .inv .4) (c .before .before .before .before .before .before .put-join .ensures) .low)
+add-sum c = omega (arith, c .before .before .before .before .before .before .before .before .before .before .before .before .before .before .before .before .before .pre .0 .few, c .wide .ensures .0, joins-more (c .before .before .before .before .before .before .before .before .before .before .before .loop-test .taken) (c .before .before .before .before .before .before .before .before .before .before .before .before .loop .inv .4) (c .before .before .before .before .before .before .before .put-join .ensures) .low)
 
 add-i : tie.Need-add-i Inv-loop μ-loop
 add-i c = omega arith
@@ -35,7 +36,14 @@ loop-less : tie.Need-loop-less Inv-loop μ-loop
 loop-less c = omega arith
 
 loop-again : tie.Need-loop-again Inv-loop μ-loop
-loop-again c = (omega arith, c .before .before .before .before .before .bs .given ∙ c .before .before .before .before .before .before .before .before .before .before .before .loop .inv .1, c .before .before .before .ds .given ∙ c .before .before .before .before .before .before .before .before .before .before .before .loop .inv .2, c .before .ps .given ∙ c .before .before .before .before .before .before .before .before .before .before .before .loop .inv .3, joins-more (c .before .before .before .before .before .before .before .before .before .before .loop-test .taken) (c .before .before .before .before .before .before .before .before .before .before .before .loop .inv .4) (c .before .before .before .before .before .before .put-join .ensures))
+loop-again c =
+    let v = c .before .before .before .before .before .before .before .before .before .before .before .before .loop .inv in (
+      omega arith,
+      c .before .before .before .before .before .before .bs .given ∙ v .1,
+      c .before .before .before .before .ds .given ∙ v .2,
+      c .before .before .ps .given ∙ v .3,
+      rw (c .wide .ensures .0) (joins-more (c .before .before .before .before .before .before .before .before .before .before .before .loop-test .taken) (v .4) (c .before .before .before .before .before .before .before .put-join .ensures)),
+    )
 
 same-length : tie.Need-same-length Inv-loop μ-loop
 same-length c = c .before .loop .inv .1
@@ -60,6 +68,7 @@ put-joins-spec =
     sub-last
     loop-holds
     put-join-requires
+    wide-requires
     add-sum
     add-i
     loop-less

@@ -4,8 +4,7 @@ use Prim.Native.Nat.{_-_, _≤_}
 use native.Mathlib.Omega.{arith}
 use lib.ListN.{length}
 use Rattle.embedding.specs.Places.{Low, PutsSinks}
-use Rattle.embedding.proofs.Upward.{sink-flat}
-use Rattle.embedding.proofs.Spots.{low-root, sinks-begin, sinks-more}
+use Rattle.embedding.proofs.Spots.{low-root, flat, sinks-begin, sinks-more}
 use Rattle.embedding.proofs.places.sink_places.Statement.{statement}
 use Rattle.embedding.proofs.places.sink_places.Tie as tie
 
@@ -18,14 +17,16 @@ abbrev μ-loop : tie.MeasureT-loop
 loop-holds : tie.Need-loop-holds Inv-loop μ-loop
 loop-holds c = (omega arith, refl, refl, sinks-begin)
 
-sink-at-requires : tie.Need-sink-at-requires Inv-loop μ-loop
-sink-at-requires c κs = (c .before .before .pre .0, c .loop-test .taken)
+place-at-requires : tie.Need-place-at-requires Inv-loop μ-loop
+place-at-requires c κs = c .before .before .pre .0 (c .before .loop .k) (c .loop-test .taken)
 
 root-spot-requires : tie.Need-root-spot-requires Inv-loop μ-loop
-root-spot-requires c κs = (c .sink-at .ensures .fair, sym (sink-flat (c .before .before .before .pre .0) (c .before .loop-test .taken) (c .sink-at .ensures)))
+root-spot-requires c κs = flat (c .before .before .before .pre .0 (c .before .before .loop .k) (c .before .loop-test .taken)) (c .place-at .ensures)
 
 put-spot-requires : tie.Need-put-spot-requires Inv-loop μ-loop
-put-spot-requires c κs = ((omega (arith, c .before .before .before .before .before .before .pre .1, c .before .before .before .before .before .loop .inv .1), omega (arith, c .before .before .before .before .before .before .pre .2, c .before .before .before .before .before .loop .inv .2)), subst Low (sym (c .before .before .root-spot .ensures)) (low-root (c .before .before .before .sink-at .ensures .fair)))
+put-spot-requires c κs =
+    let f = flat (c .before .before .before .before .before .before .pre .0 (c .before .before .before .before .before .loop .k) (c .before .before .before .before .loop-test .taken)) (c .before .before .before .place-at .ensures) .0 in
+    ((omega (arith, c .before .before .before .before .loop-test .taken, c .before .before .before .before .before .before .pre .1, c .before .before .before .before .before .loop .inv .1), omega (arith, c .before .before .before .before .loop-test .taken, c .before .before .before .before .before .before .pre .2, c .before .before .before .before .before .loop .inv .2)), subst Low (sym (c .before .before .root-spot .ensures)) (low-root f))
 
 add-k : tie.Need-add-k Inv-loop μ-loop
 add-k c = omega arith
@@ -36,7 +37,12 @@ loop-less c = omega arith
 loop-again : tie.Need-loop-again Inv-loop μ-loop
 loop-again c =
     let v = c .before .before .before .before .before .before .before .before .loop .inv in
-    (omega arith, c .before .us .given ∙ v .1, c .vs .given ∙ v .2, sinks-more (c .before .before .before .before .before .before .before .before .before .pre .0) (c .before .before .before .before .before .before .before .loop-test .taken) (c .before .before .before .before .before .before .sink-at .ensures) (c .before .before .before .before .before .root-spot .ensures) (omega (arith, c .before .before .before .before .before .before .before .before .before .pre .1, v .1), omega (arith, c .before .before .before .before .before .before .before .before .before .pre .2, v .2)) (v .3) (c .before .before .put-spot .ensures))
+    let f = flat (c .before .before .before .before .before .before .before .before .before .pre .0 (c .before .before .before .before .before .before .before .before .loop .k) (c .before .before .before .before .before .before .before .loop-test .taken)) (c .before .before .before .before .before .before .place-at .ensures) .0 in (
+      omega arith,
+      c .before .us .given ∙ v .1,
+      c .vs .given ∙ v .2,
+      sinks-more f (c .before .before .before .before .before .before .place-at .ensures) (c .before .before .before .before .before .root-spot .ensures) (omega (arith, c .before .before .before .before .before .before .before .loop-test .taken, c .before .before .before .before .before .before .before .before .before .pre .1, v .1), omega (arith, c .before .before .before .before .before .before .before .loop-test .taken, c .before .before .before .before .before .before .before .before .before .pre .2, v .2)) (v .3) (c .before .before .put-spot .ensures),
+    )
 
 same-length : tie.Need-same-length Inv-loop μ-loop
 same-length c = c .before .loop .inv .1
@@ -56,7 +62,7 @@ sink-places-spec =
     Inv-loop
     μ-loop
     loop-holds
-    sink-at-requires
+    place-at-requires
     root-spot-requires
     put-spot-requires
     add-k

@@ -1,6 +1,7 @@
 use mathlib.Core.Path.{sym, _∙_}
 use native.Mathlib.Omega.{arith}
 use denote.Ref.{now}
+use Rattle.plane.specs.Sinks.{prompt}
 use Rattle.plane.proofs.Checks.{accepted}
 use Rattle.embedding.specs.Embedding.{checkOrder}
 use Rattle.house.specs.Fields.{firsts, seconds}
@@ -25,7 +26,7 @@ enum-told c = search needs
 check-pairs-requires : tie.Need-check-pairs-requires
 check-pairs-requires c κs =
     let v = now (c .before .before .before .before .before .args .v2) in
-    let m = accepted 512 (firsts v) (seconds v) (sym (c .before .before .check-places .ensures) ∙ c .enum-told .given .1) in
+    let m = accepted 512 (firsts v) (seconds v) (prompt (firsts v)) (sym (c .before .before .check-places .ensures) ∙ c .enum-told .given .1) in
     let n = length-firsts v in
     (omega (arith, m .some), omega (arith, m .few))
 

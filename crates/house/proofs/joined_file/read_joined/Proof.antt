@@ -1,6 +1,6 @@
 use mathlib.Core.Path.{sym, _∙_}
 use denote.Ref.{now}
-use Rattle.embedding.proofs.Accepted.{both-pass}
+use Rattle.plane.proofs.Checks.{both-pass}
 use Rattle.house.specs.Form.{form}
 use Rattle.house.specs.Reading.{checkJoinedFile}
 use Rattle.house.proofs.Standing.{formed}

@@ -2,6 +2,7 @@ use denote.Ref.{now}
 use Prim.Native.Nat.{_/_}
 use lib.IntN.{pos}
 use lib.ListN.{length, replicate}
+use Rattle.plane.proofs.Checks.{check-prompt}
 use Rattle.house.specs.Fields.{firsts, seconds}
 use Rattle.house.proofs.Values.{length-firsts, length-seconds}
 use Rattle.house.proofs.Answers.{too-many, front-part}
@@ -23,32 +24,34 @@ slice-aggregate-get-places-2 c = search needs
 get-places-requires : tie.Need-get-places-requires
 get-places-requires c κs = search needs
 
-sub-check-sinks : tie.Need-sub-check-sinks
-sub-check-sinks c = search needs
+sub-check-places : tie.Need-sub-check-places
+sub-check-places c = search needs
 
-part-check-sinks-start : tie.Need-part-check-sinks-start
-part-check-sinks-start c = search needs
+part-check-places-start : tie.Need-part-check-places-start
+part-check-places-start c = search needs
 
-part-check-sinks-end : tie.Need-part-check-sinks-end
-part-check-sinks-end c = search needs
+part-check-places-end : tie.Need-part-check-places-end
+part-check-places-end c = search needs
 
-sub-check-sinks-2 : tie.Need-sub-check-sinks-2
-sub-check-sinks-2 c = search needs
+sub-check-places-2 : tie.Need-sub-check-places-2
+sub-check-places-2 c = search needs
 
-part-check-sinks-start-2 : tie.Need-part-check-sinks-start-2
-part-check-sinks-start-2 c = search needs
+part-check-places-start-2 : tie.Need-part-check-places-start-2
+part-check-places-start-2 c = search needs
 
-part-check-sinks-end-2 : tie.Need-part-check-sinks-end-2
-part-check-sinks-end-2 c = search needs
+part-check-places-end-2 : tie.Need-part-check-places-end-2
+part-check-places-end-2 c = search needs
 
-check-sinks-requires : tie.Need-check-sinks-requires
-check-sinks-requires c κs = search needs
+check-places-requires : tie.Need-check-places-requires
+check-places-requires c κs = search needs
 
 returns-2 : tie.Need-returns-2
 returns-2 c =
     let v = now (c .before .before .before .before .before .before .before .before .before .before .before .before .args .v) in
     let g = c .before .before .before .before .before .before .before .get-places .ensures in
-    rw (front-part (firsts v) (replicate 512 (pos 0)) (length v / 8) (g .0) (length-firsts v), front-part (seconds v) (replicate 512 (pos 0)) (length v / 8) (g .1) (length-seconds v)) at (c .check-sinks .ensures)
+    let p = front-part (firsts v) (replicate 512 (pos 0)) (length v / 8) (g .0) (length-firsts v) in
+    let q = front-part (seconds v) (replicate 512 (pos 0)) (length v / 8) (g .1) (length-seconds v) in
+    rw (check-prompt 512 (firsts v) (seconds v)) (rw (p, q) at (c .check-places .ensures))
 
 pub check-places-spec : {M : Type 1} → statement M
 check-places-spec =
@@ -58,11 +61,11 @@ check-places-spec =
     slice-aggregate-get-places
     slice-aggregate-get-places-2
     get-places-requires
-    sub-check-sinks
-    part-check-sinks-start
-    part-check-sinks-end
-    sub-check-sinks-2
-    part-check-sinks-start-2
-    part-check-sinks-end-2
-    check-sinks-requires
+    sub-check-places
+    part-check-places-start
+    part-check-places-end
+    sub-check-places-2
+    part-check-places-start-2
+    part-check-places-end-2
+    check-places-requires
     returns-2)

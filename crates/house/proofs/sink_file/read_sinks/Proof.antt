@@ -1,4 +1,4 @@
-use Rattle.embedding.proofs.Accepted.{both-pass}
+use Rattle.plane.proofs.Checks.{both-pass}
 use denote.Ref.{now}
 use Rattle.house.specs.Form.{form}
 use mathlib.Core.Path.{sym, _∙_}

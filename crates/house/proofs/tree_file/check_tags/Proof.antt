@@ -2,7 +2,7 @@ use denote.Ref.{now}
 use Prim.Native.Nat.{_-_, _*_}
 use lib.IntN.{pos}
 use lib.ListN.{length, replicate}
-use Rattle.plane.specs.Sinks.{sinksAt}
+use Rattle.plane.specs.Sinks.{sinksAt, prompt}
 use Rattle.embedding.specs.Embedding.{placesU, placesV, wires}
 use Rattle.house.specs.Reading.{checkTags}
 use Rattle.house.proofs.Answers.{front-part}
@@ -17,17 +17,17 @@ mul-m c = search needs
 sub-m : tie.Need-sub-m
 sub-m c = search needs
 
-slice-aggregate-embed-sound : tie.Need-slice-aggregate-embed-sound
-slice-aggregate-embed-sound c = search needs
+slice-aggregate-embed-prompt : tie.Need-slice-aggregate-embed-prompt
+slice-aggregate-embed-prompt c = search needs
 
-slice-aggregate-embed-sound-2 : tie.Need-slice-aggregate-embed-sound-2
-slice-aggregate-embed-sound-2 c = search needs
+slice-aggregate-embed-prompt-2 : tie.Need-slice-aggregate-embed-prompt-2
+slice-aggregate-embed-prompt-2 c = search needs
 
-slice-aggregate-embed-sound-3 : tie.Need-slice-aggregate-embed-sound-3
-slice-aggregate-embed-sound-3 c = search needs
+slice-aggregate-embed-prompt-3 : tie.Need-slice-aggregate-embed-prompt-3
+slice-aggregate-embed-prompt-3 c = search needs
 
-embed-sound-requires : tie.Need-embed-sound-requires
-embed-sound-requires c κs = search needs
+embed-prompt-requires : tie.Need-embed-prompt-requires
+embed-prompt-requires c κs = search needs
 
 sub-check-nodes : tie.Need-sub-check-nodes
 sub-check-nodes c = search needs
@@ -63,10 +63,10 @@ returns : tie.Need-returns
 unfolding checkTags
 returns c =
     let a = c .before .before .before .before .before .before .before .before .before .before .before .before .before .before .before .before .before .args in
-    let s = sinksAt (now (a .xs)) (now (a .ys)) in
+    let s = sinksAt (now (a .xs)) (now (a .ys)) (prompt (now (a .xs))) in
     let js = now (a .js) in
     let m = 2 * length (now (a .xs)) - 1 in
-    let e = c .before .before .before .before .before .before .before .before .before .before .embed-sound .ensures in
+    let e = c .before .before .before .before .before .before .before .before .before .before .embed-prompt .ensures in
     rw (
       front-part (placesU s js) (replicate 1023 (pos 0)) m (e .writes-u) (length-U (now (a .xs)) (now (a .ys)) js),
       front-part (placesV s js) (replicate 1023 (pos 0)) m (e .writes-v) (length-V (now (a .xs)) (now (a .ys)) js),
@@ -79,10 +79,10 @@ check-tags-spec =
     (tie.spec
     mul-m
     sub-m
-    slice-aggregate-embed-sound
-    slice-aggregate-embed-sound-2
-    slice-aggregate-embed-sound-3
-    embed-sound-requires
+    slice-aggregate-embed-prompt
+    slice-aggregate-embed-prompt-2
+    slice-aggregate-embed-prompt-3
+    embed-prompt-requires
     sub-check-nodes
     part-check-nodes-start
     part-check-nodes-end

@@ -2,7 +2,7 @@ use mathlib.Core.Path.{_≡_, sym, _∙_}
 use native.Mathlib.Omega.{arith}
 use denote.Ref.{now}
 use Rattle.plane.specs.declared.refusal.Checked.the-variants.{Fine}
-use Rattle.embedding.proofs.Accepted.{order-sound}
+use Rattle.embedding.proofs.Bounded.{order-sound}
 use Rattle.house.specs.Form.{form}
 use Rattle.house.specs.Reading.{checkTreeFile}
 use Rattle.house.proofs.Scan.{formed-less}
@@ -59,7 +59,7 @@ value-requires-4 c κs = (omega arith, formed 5 _ (form-fine (c .before .before 
 check-tag-values-requires : tie.Need-check-tag-values-requires
 check-tag-values-requires c κs =
     let t = c .before .before in
-    order-sound _ _ _ (sym (t .before .before .check-values .ensures) ∙ t .enum-told2 .given .1)
+    order-sound _ _ _ _ (sym (t .before .before .check-values .ensures) ∙ t .enum-told2 .given .1)
 
 returns-3 : tie.Need-returns-3
 unfolding checkTreeFile

@@ -4,7 +4,7 @@ use denote.Ref.{now}
 use Prim.Native.Nat.{_-_, _*_}
 use lib.IntN.{pos}
 use lib.ListN.{length, replicate}
-use Rattle.plane.specs.Sinks.{sinksAt}
+use Rattle.plane.specs.Sinks.{sinksAt, prompt}
 use Rattle.embedding.specs.Embedding.{placesU, placesV, wires}
 use Rattle.house.proofs.Answers.{front-part}
 use Rattle.house.proofs.TreeAnswers.{length-U, length-V, length-wires}
@@ -20,17 +20,17 @@ mul-m c = search needs
 sub-m : tie.Need-sub-m
 sub-m c = search needs
 
-slice-aggregate-embed-sound : tie.Need-slice-aggregate-embed-sound
-slice-aggregate-embed-sound c = search needs
+slice-aggregate-embed-prompt : tie.Need-slice-aggregate-embed-prompt
+slice-aggregate-embed-prompt c = search needs
 
-slice-aggregate-embed-sound-2 : tie.Need-slice-aggregate-embed-sound-2
-slice-aggregate-embed-sound-2 c = search needs
+slice-aggregate-embed-prompt-2 : tie.Need-slice-aggregate-embed-prompt-2
+slice-aggregate-embed-prompt-2 c = search needs
 
-slice-aggregate-embed-sound-3 : tie.Need-slice-aggregate-embed-sound-3
-slice-aggregate-embed-sound-3 c = search needs
+slice-aggregate-embed-prompt-3 : tie.Need-slice-aggregate-embed-prompt-3
+slice-aggregate-embed-prompt-3 c = search needs
 
-embed-sound-requires : tie.Need-embed-sound-requires
-embed-sound-requires c κs = search needs
+embed-prompt-requires : tie.Need-embed-prompt-requires
+embed-prompt-requires c κs = search needs
 
 put-joined-requires : tie.Need-put-joined-requires
 put-joined-requires c κs = search needs
@@ -68,11 +68,12 @@ put-tags-requires c κs =
     let xs = now (a .xs) in
     let ys = now (a .ys) in
     let js = now (a .js) in
+    let s = sinksAt xs ys (prompt xs) in
     let m = 2 * length xs - 1 in
-    let e = c .before .before .before .before .before .before .before .before .before .before .before .before .before .before .embed-sound .ensures in
-    let p = front-part (placesU (sinksAt xs ys) js) (replicate 1023 (pos 0)) m (e .writes-u) (length-U xs ys js) in
-    let q = front-part (placesV (sinksAt xs ys) js) (replicate 1023 (pos 0)) m (e .writes-v) (length-V xs ys js) in
-    let r = front-part (wires (sinksAt xs ys) js) (replicate 1023 0) m (e .writes-w) (length-wires xs ys js) in
+    let e = c .before .before .before .before .before .before .before .before .before .before .before .before .before .before .embed-prompt .ensures in
+    let p = front-part (placesU s js) (replicate 1023 (pos 0)) m (e .writes-u) (length-U xs ys js) in
+    let q = front-part (placesV s js) (replicate 1023 (pos 0)) m (e .writes-v) (length-V xs ys js) in
+    let r = front-part (wires s js) (replicate 1023 0) m (e .writes-w) (length-wires xs ys js) in
     let u = length-U xs ys js in
     let j = c .before .before .before .before .before .before .before .before .before .before .before .before .before .before .before .before .before .before .before .before .pre .0 .joins in
     let l = c .before .before .before .before .before .before .before .before .before .put-joined .ensures in
@@ -92,11 +93,12 @@ returns c =
     let xs = now (a .xs) in
     let ys = now (a .ys) in
     let js = now (a .js) in
+    let s = sinksAt xs ys (prompt xs) in
     let m = 2 * length xs - 1 in
-    let e = c .before .before .before .before .before .before .before .before .before .before .before .before .before .before .before .before .before .embed-sound .ensures in
-    let p = front-part (placesU (sinksAt xs ys) js) (replicate 1023 (pos 0)) m (e .writes-u) (length-U xs ys js) in
-    let q = front-part (placesV (sinksAt xs ys) js) (replicate 1023 (pos 0)) m (e .writes-v) (length-V xs ys js) in
-    let r = front-part (wires (sinksAt xs ys) js) (replicate 1023 0) m (e .writes-w) (length-wires xs ys js) in
+    let e = c .before .before .before .before .before .before .before .before .before .before .before .before .before .before .before .before .before .embed-prompt .ensures in
+    let p = front-part (placesU s js) (replicate 1023 (pos 0)) m (e .writes-u) (length-U xs ys js) in
+    let q = front-part (placesV s js) (replicate 1023 (pos 0)) m (e .writes-v) (length-V xs ys js) in
+    let r = front-part (wires s js) (replicate 1023 0) m (e .writes-w) (length-wires xs ys js) in
     rw (tree-is xs ys js) (put-more (c .before .before .before .before .before .before .before .before .before .before .before .before .put-joined .ensures) (rw (p, q, r) at (c .before .before .put-tags .ensures)))
 
 pub put-tree-spec : {M : Type 1} → statement M
@@ -105,10 +107,10 @@ put-tree-spec =
     (tie.spec
     mul-m
     sub-m
-    slice-aggregate-embed-sound
-    slice-aggregate-embed-sound-2
-    slice-aggregate-embed-sound-3
-    embed-sound-requires
+    slice-aggregate-embed-prompt
+    slice-aggregate-embed-prompt-2
+    slice-aggregate-embed-prompt-3
+    embed-prompt-requires
     put-joined-requires
     sub-put-tags
     part-put-tags-start

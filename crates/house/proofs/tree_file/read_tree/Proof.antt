@@ -1,7 +1,7 @@
 use mathlib.Core.Path.{sym, _∙_}
 use native.Mathlib.Omega.{arith}
 use denote.Ref.{now}
-use Rattle.embedding.proofs.Accepted.{both-pass}
+use Rattle.plane.proofs.Checks.{both-pass}
 use Rattle.house.specs.Form.{form}
 use Rattle.house.specs.Reading.{checkTreeFile}
 use Rattle.house.proofs.Scan.{formed-less}

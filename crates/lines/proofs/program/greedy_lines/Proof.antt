@@ -13,12 +13,12 @@ use borrow.Author.Needs.{needs}
 use Rattle.lines.proofs.program.greedy_lines.Statement.{statement}
 use Rattle.lines.proofs.program.greedy_lines.Tie as tie
 
-built : (z : tie.Start) {j j′ : List ℕ} {a a′ b b′ : List ℤ} {w w′ : List ℕ} {t : ℕ} → Trees (z .args .xs .now) (z .args .ys .now) j a b w t j′ a′ b′ w′
-    → Built (sinksAt (z .args .xs .now) (z .args .ys .now)) (orderAt (z .args .xs .now) (z .args .ys .now)) t j j′ a a′ b b′ w w′
+built : (z : tie.Start) {j j′ : List ℕ} {a a′ b b′ : List ℤ} {w w′ : List ℕ} {t : ℕ} → Trees (z .args .xs .now) (z .args .ys .now) (z .args .delays .now) j a b w t j′ a′ b′ w′
+    → Built (sinksAt (z .args .xs .now) (z .args .ys .now) (z .args .delays .now)) (orderAt (z .args .xs .now) (z .args .ys .now) (z .args .delays .now)) t j j′ a a′ b b′ w w′
 built z m =
     let p = z .pre .0 in
     record {
-      ordered = record { some = p .some; few = p .few; valid = order-valid (sinksAt (z .args .xs .now) (z .args .ys .now)) (length (z .args .xs .now)) (p .some) };
+      ordered = record { some = p .some; few = p .few; valid = order-valid (sinksAt (z .args .xs .now) (z .args .ys .now) (z .args .delays .now)) (length (z .args .xs .now)) (p .some) };
       sums = m .sums;
       has-j = m .writes-j;
       has-u = m .writes-u;
@@ -40,7 +40,7 @@ slice-aggregate-tree-sound-4 c = search needs
 
 tree-sound-requires : tie.Need-tree-sound-requires
 tree-sound-requires c κs =
-    let p = c .before .before .before .before .before .pre .0 in
+    let p = c .before .before .before .before .before .before .pre .0 in
     let f = p .few in
     record {
       ready = record { ranged = p .ranged; some = p .some; few = p .few; room = omega arith };
@@ -75,16 +75,16 @@ slice-aggregate-tree-text-3 c = search needs
 
 tree-text-requires : tie.Need-tree-text-requires
 tree-text-requires c κs =
-    let z = c .before .before .before .before .before .before .before .before .before .before .before .before .before .before .before .before in
-    (built-grown (sinksAt (z .args .xs .now) (z .args .ys .now)) (orderAt (z .args .xs .now) (z .args .ys .now)) (built z (c .before .before .before .before .before .before .before .before .before .before .tree-sound .ensures)), z .pre .1)
+    let z = c .before .before .before .before .before .before .before .before .before .before .before .before .before .before .before .before .before in
+    (built-grown (sinksAt (z .args .xs .now) (z .args .ys .now) (z .args .delays .now)) (orderAt (z .args .xs .now) (z .args .ys .now) (z .args .delays .now)) (built z (c .before .before .before .before .before .before .before .before .before .before .tree-sound .ensures)), z .pre .1)
 
 same-length : tie.Need-same-length
 same-length c = search needs
 
 returns : tie.Need-returns
 returns c =
-    let z = c .before .before .before .before .before .before .before .before .before .before .before .before .before .before .before .before .before .before .before in
-    rw (built-text (sinksAt (z .args .xs .now) (z .args .ys .now)) (orderAt (z .args .xs .now) (z .args .ys .now)) (built z (c .before .before .before .before .before .before .before .before .before .before .before .before .before .tree-sound .ensures)) false) at (c .before .before .tree-text .ensures)
+    let z = c .before .before .before .before .before .before .before .before .before .before .before .before .before .before .before .before .before .before .before .before in
+    rw (built-text (sinksAt (z .args .xs .now) (z .args .ys .now) (z .args .delays .now)) (orderAt (z .args .xs .now) (z .args .ys .now) (z .args .delays .now)) (built z (c .before .before .before .before .before .before .before .before .before .before .before .before .before .tree-sound .ensures)) false) at (c .before .before .tree-text .ensures)
 
 pub greedy-lines-spec : {M : Type 1} → statement M
 greedy-lines-spec =

@@ -31,7 +31,7 @@ slice-aggregate-search-sound-5 c = search needs
 
 search-sound-requires : tie.Need-search-sound-requires
 search-sound-requires c κs =
-    let z = c .before .before .before .before .before .before .before in
+    let z = c .before .before .before .before .before .before .before .before in
     let p = z .pre .0 in
     let h = z .pre .1 in
     record {
@@ -67,20 +67,20 @@ slice-aggregate-tree-text-3 c = search needs
 
 tree-text-requires : tie.Need-tree-text-requires
 tree-text-requires c κs =
-    let z = c .before .before .before .before .before .before .before .before .before .before .before .before .before .before .before .before .before .before .before in
+    let z = c .before .before .before .before .before .before .before .before .before .before .before .before .before .before .before .before .before .before .before .before in
     let m = rw (c .before .before .before .before .before .before .before .before .before .before .before .before .before .before .before .before .before .all-steps .ensures) at (c .before .before .before .before .before .before .before .before .before .before .before .search-sound .ensures) in
-    let s = sinksAt (z .args .xs .now) (z .args .ys .now) in
-    (built-grown s (joinsFound s (stepCount (length (z .args .xs .now)))) (searched-built (z .args .xs .now) (z .args .ys .now) (z .pre .0) (z .pre .1) m), z .pre .2)
+    let s = sinksAt (z .args .xs .now) (z .args .ys .now) (z .args .delays .now) in
+    (built-grown s (joinsFound s (stepCount (length (z .args .xs .now)))) (searched-built (z .args .xs .now) (z .args .ys .now) (z .args .delays .now) (z .pre .0) (z .pre .1) m), z .pre .2)
 
 same-length : tie.Need-same-length
 same-length c = search needs
 
 returns : tie.Need-returns
 returns c =
-    let z = c .before .before .before .before .before .before .before .before .before .before .before .before .before .before .before .before .before .before .before .before .before .before in
+    let z = c .before .before .before .before .before .before .before .before .before .before .before .before .before .before .before .before .before .before .before .before .before .before .before in
     let m = rw (c .before .before .before .before .before .before .before .before .before .before .before .before .before .before .before .before .before .before .before .before .all-steps .ensures) at (c .before .before .before .before .before .before .before .before .before .before .before .before .before .before .search-sound .ensures) in
-    let s = sinksAt (z .args .xs .now) (z .args .ys .now) in
-    rw (built-text s (joinsFound s (stepCount (length (z .args .xs .now)))) (searched-built (z .args .xs .now) (z .args .ys .now) (z .pre .0) (z .pre .1) m) true) at (c .before .before .tree-text .ensures)
+    let s = sinksAt (z .args .xs .now) (z .args .ys .now) (z .args .delays .now) in
+    rw (built-text s (joinsFound s (stepCount (length (z .args .xs .now)))) (searched-built (z .args .xs .now) (z .args .ys .now) (z .args .delays .now) (z .pre .0) (z .pre .1) m) true) at (c .before .before .tree-text .ensures)
 
 pub proven-lines-spec : {M : Type 1} → statement M
 proven-lines-spec =

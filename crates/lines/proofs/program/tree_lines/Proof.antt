@@ -55,24 +55,32 @@ part-sinks-lines-start-2 c = search needs
 part-sinks-lines-end-2 : tie.Need-part-sinks-lines-end-2
 part-sinks-lines-end-2 c = taken-is (c .before .before .before .before .before .before .before .before .before .before .before .before .before .args .input .now) (c .before .before .before .before .before .before .before .before .read-sinks .ensures) refl refl (c .before .before .before .before .said2 .given .1) .room-y
 
+sub-sinks-lines-3 : tie.Need-sub-sinks-lines-3
+sub-sinks-lines-3 c = search needs
+
+part-sinks-lines-start-3 : tie.Need-part-sinks-lines-start-3
+part-sinks-lines-start-3 c = search needs
+
+part-sinks-lines-end-3 : tie.Need-part-sinks-lines-end-3
+part-sinks-lines-end-3 c = taken-is (c .before .before .before .before .before .before .before .before .before .before .before .before .before .before .before .args .input .now) (c .before .before .before .before .before .before .before .before .before .before .read-sinks .ensures) refl refl (c .before .before .before .before .before .before .said2 .given .1) .few
+
 sinks-lines-requires : tie.Need-sinks-lines-requires
 sinks-lines-requires c κs =
-    let z = c .before .before .before .before .before .before .before .before .before .before .before .before .before .before .before in
-    let t = taken-is (z .args .input .now) (c .before .before .before .before .before .before .before .before .before .before .read-sinks .ensures) refl refl (c .before .before .before .before .before .before .said2 .given .1) in
-    (rw (t .takes-x, t .takes-y) (sinked (z .args .input .now) (t .fine)), omega (arith, c .sinks-lines-arg3 .given .0 .1))
+    let t = taken-is (c .before .before .before .before .before .before .before .before .before .before .before .before .before .before .before .before .before .args .input .now) (c .before .before .before .before .before .before .before .before .before .before .before .before .read-sinks .ensures) refl refl (c .before .before .before .before .before .before .before .before .said2 .given .1) in
+    (rw (t .takes-x, t .takes-y, t .takes-none) (sinked (c .before .before .before .before .before .before .before .before .before .before .before .before .before .before .before .before .before .args .input .now) (t .fine)), omega (arith, c .sinks-lines-arg4 .given .0 .1))
 
 returns-2 : tie.Need-returns-2
 returns-2 c =
-    let z = c .before .before .before .before .before .before .before .before .before .before .before .before in
+    let f = c .before .before .before .before .before .before .before .before .before .before .before .before .args .input .now in
     let w = c .refusal-line .ensures in
-    rw (text-refused (z .args .input .now) (c .before .before .before .before .before .before .before .before .before .before .if1 .left) (refused-is (z .args .input .now) (c .before .before .before .before .before .before .before .read-sinks .ensures) refl refl (c .before .before .before .said .given .1)))
+    rw (text-refused f (c .before .before .before .before .before .before .before .before .before .before .if1 .left) (refused-is f (c .before .before .before .before .before .before .before .read-sinks .ensures) refl refl (c .before .before .before .said .given .1)))
     (printed (w .0) (omega (arith, w .1, c .before .refusal-line-arg .given .0 .1)))
 
 returns-3 : tie.Need-returns-3
 returns-3 c =
-    let z = c .before .before .before .before .before .before .before .before .before .before .before .before .before .before .before .before in
-    let t = taken-is (z .args .input .now) (c .before .before .before .before .before .before .before .before .before .before .before .read-sinks .ensures) refl refl (c .before .before .before .before .before .before .before .said2 .given .1) in
-    rw (text-lines (z .args .input .now) (c .before .before .before .before .before .before .before .before .before .before .before .before .before .before .if1 .left) (t .fine)) (rw (t .takes-x, t .takes-y) at (c .sinks-lines .ensures))
+    let f = c .before .before .before .before .before .before .before .before .before .before .before .before .before .before .before .before .before .before .args .input .now in
+    let t = taken-is (c .before .before .before .before .before .before .before .before .before .before .before .before .before .before .before .before .before .before .args .input .now) (c .before .before .before .before .before .before .before .before .before .before .before .before .before .read-sinks .ensures) refl refl (c .before .before .before .before .before .before .before .before .before .said2 .given .1) in
+    rw (text-lines f (c .before .before .before .before .before .before .before .before .before .before .before .before .before .before .before .before .if1 .left) (t .fine)) (rw (t .takes-x, t .takes-y, t .takes-none) at (c .sinks-lines .ensures))
 
 pub tree-lines-spec : {M : Type 1} → statement M
 tree-lines-spec =
@@ -92,6 +100,9 @@ tree-lines-spec =
     sub-sinks-lines-2
     part-sinks-lines-start-2
     part-sinks-lines-end-2
+    sub-sinks-lines-3
+    part-sinks-lines-start-3
+    part-sinks-lines-end-3
     sinks-lines-requires
     returns-2
     returns-3)

@@ -22,8 +22,8 @@ enum-told c = search needs
 
 sub-if1 : tie.Need-sub-if1
 sub-if1 c =
-    let a = c .before .before .before .args in
-    accepted 512 (now (a .xs)) (now (a .ys)) (sym (c .before .before .check-sinks .ensures) ∙ c .enum-told .given .1) .some
+    let a = c .before .before .before .before .args in
+    accepted 512 (now (a .xs)) (now (a .ys)) (now (a .delays)) (sym (c .before .before .check-sinks .ensures) ∙ c .enum-told .given .1) .some
 
 mul-if1 : tie.Need-mul-if1
 mul-if1 c = search needs

@@ -19,8 +19,8 @@ enum-told c = search needs
 
 order-sound-requires : tie.Need-order-sound-requires
 order-sound-requires c κs =
-    let a = c .before .before .before .before .before .args in
-    ready (now (a .xs)) (now (a .ys)) (now (a .js)) (sym (c .before .before .before .check-nearest .ensures) ∙ c .before .enum-told .given .1)
+    let a = c .before .before .before .before .before .before .args in
+    ready (now (a .xs)) (now (a .ys)) (now (a .delays)) (now (a .js)) (sym (c .before .before .before .check-nearest .ensures) ∙ c .before .enum-told .given .1)
 
 same-length : tie.Need-same-length
 same-length c = search needs

@@ -29,11 +29,11 @@ mul-check-room : tie.Need-mul-check-room
 mul-check-room c = search needs
 
 -- what the first check leaves
-order-fine : (c : tie.After-enum-told) → checkNearest (now (c .before .before .before .before .before .args .xs)) (now (c .before .before .before .before .before .args .ys)) (length (now (c .before .before .before .before .before .args .js))) ≡ Fine
+order-fine : (c : tie.After-enum-told) → checkNearest (now (c .before .before .before .before .before .before .args .xs)) (now (c .before .before .before .before .before .before .args .ys)) (now (c .before .before .before .before .before .before .args .delays)) (length (now (c .before .before .before .before .before .before .args .js))) ≡ Fine
 order-fine c = sym (c .before .before .check-nearest .ensures) ∙ c .enum-told .given .1
 
 sub-check-room : tie.Need-sub-check-room
-sub-check-room c = omega (arith, ready _ _ (now (c .before .before .before .before .before .args .js)) (order-fine c) .some)
+sub-check-room c = omega (arith, ready _ _ _ (now (c .before .before .before .before .before .before .args .js)) (order-fine c) .some)
 
 check-room-requires : tie.Need-check-room-requires
 check-room-requires c κs = search needs
@@ -54,7 +54,7 @@ tree-sound-requires : tie.Need-tree-sound-requires
 tree-sound-requires c κs =
     let p = c .before .before .before .before in
     let (u, v, w) = has-room _ _ _ _ (sym (p .before .before .check-room .ensures) ∙ p .enum-told2 .given .1) in
-    record { ready = ready _ _ _ (order-fine (p .before .before .before)); room-u = u; room-v = v; room-w = w }
+    record { ready = ready _ _ _ _ (order-fine (p .before .before .before)); room-u = u; room-v = v; room-w = w }
 
 same-length : tie.Need-same-length
 same-length c = search needs

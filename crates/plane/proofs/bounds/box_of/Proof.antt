@@ -2,7 +2,7 @@ use mathlib.Core.Path.{sym, ap, _∙_}
 use borrow.Author.Needs.{needs}
 use denote.Ref.{now}
 use Rattle.plane.specs.Bounds.{box, boxAnswer}
-use Rattle.plane.proofs.Checks.{accepted}
+use Rattle.plane.proofs.Checks.{accepted, fitting}
 use Rattle.plane.proofs.Covering.{covers-box}
 use Rattle.plane.proofs.bounds.box_of.Statement.{statement}
 use Rattle.plane.proofs.bounds.box_of.Tie as tie
@@ -22,9 +22,9 @@ enum-told c = search needs
 
 box-sound-requires : tie.Need-box-sound-requires
 box-sound-requires c κs =
-    let a = c .before .before .before .args in
-    let m = accepted 512 (now (a .xs)) (now (a .ys)) (sym (c .before .before .check-sinks .ensures) ∙ c .enum-told .given .1) in
-    (m .ranged, m .some)
+    let a = c .before .before .before .before .args in
+    let m = accepted 512 (now (a .xs)) (now (a .ys)) (now (a .delays)) (sym (c .before .before .check-sinks .ensures) ∙ c .enum-told .given .1) in
+    (fitting (m .ranged), m .some)
 
 returns-2 : tie.Need-returns-2
 unfolding boxAnswer

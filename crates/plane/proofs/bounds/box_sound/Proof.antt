@@ -11,19 +11,19 @@ use Rattle.plane.proofs.bounds.box_sound.Statement.{statement}
 use Rattle.plane.proofs.bounds.box_sound.Tie as tie
 
 abbrev Inv-loop : tie.InvT-loop
-Inv-loop xs ys b₀ i₀ b i = (0 < i) × (i ≤ length xs) × Covers (sinksAt xs ys) (upTo i) b
+Inv-loop xs ys delays b₀ i₀ b i = (0 < i) × (i ≤ length xs) × Covers (sinksAt xs ys delays) (upTo i) b
 
 abbrev μ-loop : tie.MeasureT-loop
-μ-loop xs ys b₀ i₀ b i = length xs - i
+μ-loop xs ys delays b₀ i₀ b i = length xs - i
 
 sink-at-requires : tie.Need-sink-at-requires Inv-loop μ-loop
-sink-at-requires c κs = c .pre
+sink-at-requires c κs = c .before .pre
 
 loop-holds : tie.Need-loop-holds Inv-loop μ-loop
 loop-holds c = (omega arith, omega arith, c .sink-at .ensures)
 
 sink-at-requires-2 : tie.Need-sink-at-requires-2 Inv-loop μ-loop
-sink-at-requires-2 c κs = (c .before .before .before .pre .0, c .loop-test .taken)
+sink-at-requires-2 c κs = (c .before .before .before .before .pre .0, c .loop-test .taken)
 
 hull-requires : tie.Need-hull-requires Inv-loop μ-loop
 hull-requires c κs = tt
@@ -41,7 +41,7 @@ loop-again c =
 
 returns : tie.Need-returns Inv-loop μ-loop
 returns c =
-    let e : c .before .loop .i ≡ length (now (c .before .before .before .args .xs)) = omega arith in
+    let e : c .before .loop .i ≡ length (now (c .before .before .before .before .args .xs)) = omega arith in
     rw e at (c .before .loop .inv .2)
 
 pub box-sound-spec : {M : Type 1} → statement M

@@ -1,4 +1,5 @@
 use borrow.Author.Needs.{needs}
+use native.Mathlib.Omega.{arith}
 use mir.Facts.{toZ-ofZ}
 use Rattle.plane.proofs.Numbers.{lift-range}
 use Rattle.plane.proofs.boxes.sink_box.Statement.{statement}
@@ -24,15 +25,29 @@ tilted-v-requires c κs =
     rw (simp toZ-ofZ at (c .before .before .on-grid .ensures), simp toZ-ofZ at (c .before .on-grid2 .ensures))
     (lift-range (c .before .before .before .args .x) (c .before .before .before .pre .0) .1, lift-range (c .before .before .before .args .y) (c .before .before .before .pre .1) .1)
 
-point-requires : tie.Need-point-requires
-point-requires c κs = search needs
+-- the box of a sink in range is fair
+around-requires : tie.Need-around-requires
+around-requires c κs =
+    let p = c .before .before .before .before in
+    let f = p .fits .x in
+    let g = p .fits .y in
+    let a = lift-range (p .args .x) (p .pre .0) in
+    let b = lift-range (p .args .y) (p .pre .1) in
+    let h = p .pre .2 in
+    rw (
+      c .tilted-v .ensures,
+      c .before .tilted-u .ensures,
+      simp toZ-ofZ at (c .before .before .on-grid2 .ensures),
+      simp toZ-ofZ at (c .before .before .before .on-grid .ensures),
+    )
+    (omega arith, omega arith, omega arith, omega arith, omega arith)
 
 returns : tie.Need-returns
 returns c =
     let f = c .before .before .before .before .before .fits .x in
     let g = c .before .before .before .before .before .fits .y in
     rw (
-      c .point .ensures,
+      c .around .ensures,
       c .before .tilted-v .ensures,
       c .before .before .tilted-u .ensures,
       simp toZ-ofZ at (c .before .before .before .on-grid2 .ensures),
@@ -47,5 +62,5 @@ sink-box-spec =
     on-grid-requires-2
     tilted-u-requires
     tilted-v-requires
-    point-requires
+    around-requires
     returns)

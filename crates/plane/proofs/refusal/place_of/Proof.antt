@@ -29,6 +29,9 @@ enum-told-5 c = search needs
 enum-known-r-4 : tie.Need-enum-known-r-4
 enum-known-r-4 c = search needs
 
+enum-known-r-5 : tie.Need-enum-known-r-5
+enum-known-r-5 c = search needs
+
 returns : tie.Need-returns
 returns c = search needs
 
@@ -56,6 +59,9 @@ returns-8 c = search needs
 returns-9 : tie.Need-returns-9
 returns-9 c = rw (c .before .r4 .given .1)
 
+returns-10 : tie.Need-returns-10
+returns-10 c = rw (c .before .r5 .given .1)
+
 pub place-of-spec : {M : Type 1} → statement M
 place-of-spec =
     tie.close
@@ -69,6 +75,7 @@ place-of-spec =
     enum-known-r-3
     enum-told-5
     enum-known-r-4
+    enum-known-r-5
     returns
     returns-2
     returns-3
@@ -77,4 +84,5 @@ place-of-spec =
     returns-6
     returns-7
     returns-8
-    returns-9)
+    returns-9
+    returns-10)

@@ -21,11 +21,11 @@ returns c = rw (sym (c .before .before .before .check-sinks .ensures) ∙ c .bef
 enum-told : tie.Need-enum-told
 enum-told c = search needs
 
-fine : (c : tie.After-enum-told) → checkSinks 12 (now (c .before .before .before .args .xs)) (now (c .before .before .before .args .ys)) ≡ Fine
+fine : (c : tie.After-enum-told) → checkSinks 12 (now (c .before .before .before .before .args .xs)) (now (c .before .before .before .before .args .ys)) (now (c .before .before .before .before .args .delays)) ≡ Fine
 fine c = sym (c .before .before .check-sinks .ensures) ∙ c .enum-told .given .1
 
 check-rooms-requires : tie.Need-check-rooms-requires
-check-rooms-requires c κs = let m = accepted 12 _ _ (fine c) in (m .some, m .few)
+check-rooms-requires c κs = let m = accepted 12 _ _ _ (fine c) in (m .some, m .few)
 
 returns-2 : tie.Need-returns-2
 unfolding checkSearch

@@ -23,13 +23,13 @@ enum-told : tie.Need-enum-told
 enum-told c = search needs
 
 -- the check was passed
-passed-all : (c : tie.After-enum-told) → checkSearch (now (c .before .before .before .before .before .before .args .xs)) (now (c .before .before .before .before .before .before .args .ys)) (length (now (c .before .before .before .before .before .before .args .table))) (length (now (c .before .before .before .before .before .before .args .js))) (length (now (c .before .before .before .before .before .before .args .us))) (length (now (c .before .before .before .before .before .before .args .vs))) (length (now (c .before .before .before .before .before .before .args .ws))) ≡ Fine
+passed-all : (c : tie.After-enum-told) → checkSearch (now (c .before .before .before .before .before .before .before .args .xs)) (now (c .before .before .before .before .before .before .before .args .ys)) (now (c .before .before .before .before .before .before .before .args .delays)) (length (now (c .before .before .before .before .before .before .before .args .table))) (length (now (c .before .before .before .before .before .before .before .args .js))) (length (now (c .before .before .before .before .before .before .before .args .us))) (length (now (c .before .before .before .before .before .before .before .args .vs))) (length (now (c .before .before .before .before .before .before .before .args .ws))) ≡ Fine
 passed-all c = sym (c .before .before .check-search .ensures) ∙ c .enum-told .given .1
 
 search-sound-requires : tie.Need-search-sound-requires
 search-sound-requires c κs =
-    let a = c .before .before .before .before .before .before .before .before .before .before .before .args in
-    provided (now (a .xs)) (now (a .ys)) (now (a .table)) (now (a .js)) (now (a .us)) (now (a .vs)) (now (a .ws)) (passed-all (c .before .before .before .before .before))
+    let a = c .before .before .before .before .before .before .before .before .before .before .before .before .args in
+    provided (now (a .xs)) (now (a .ys)) (now (a .delays)) (now (a .table)) (now (a .js)) (now (a .us)) (now (a .vs)) (now (a .ws)) (passed-all (c .before .before .before .before .before))
 
 same-length : tie.Need-same-length
 same-length c = search needs

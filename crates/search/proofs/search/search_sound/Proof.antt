@@ -3,6 +3,7 @@ use denote.Ref.{now}
 use Prim.Native.Nat.{_*_, _-_}
 use lib.ListN.{length, take}
 use Rattle.plane.specs.Sinks.{sinksAt}
+use Rattle.embedding.proofs.Bounded.{sound}
 use Rattle.search.specs.Searching.{joinsFound}
 use Rattle.search.proofs.Finding.{found-ordered, found-part, found-is}
 use borrow.Author.Needs.{needs}
@@ -28,19 +29,19 @@ part-embed-sound-end : tie.Need-part-embed-sound-end
 part-embed-sound-end c = search needs
 
 -- the pairs that embedding is lent are those that were found
-pairs-lent : (c : tie.After-search-joins) → take (2 * (length (now (c .before .before .before .before .before .before .args .xs)) - 1) - 0) (c .search-joins .last .1 .1 .1 .1 .0) ≡ joinsFound (sinksAt (now (c .before .before .before .before .before .before .args .xs)) (now (c .before .before .before .before .before .before .args .ys))) (c .before .before .before .before .before .before .args .budget)
+pairs-lent : (c : tie.After-search-joins) → take (2 * (length (now (c .before .before .before .before .before .before .before .args .xs)) - 1) - 0) (c .search-joins .last .1 .1 .1 .1 .1 .0) ≡ joinsFound (sinksAt (now (c .before .before .before .before .before .before .before .args .xs)) (now (c .before .before .before .before .before .before .before .args .ys)) (now (c .before .before .before .before .before .before .before .args .delays))) (c .before .before .before .before .before .before .before .args .budget)
 pairs-lent c =
-    let z = c .before .before .before .before .before .before in
+    let z = c .before .before .before .before .before .before .before in
     let p = z .pre .prepared in
-    found-part (now (z .args .xs)) (now (z .args .ys)) (z .args .budget) (p .ranged) (p .some) (p .few) (now (z .args .js)) (c .search-joins .last .1 .1 .1 .1 .0) (c .search-joins .ensures .writes-js)
+    found-part (now (z .args .xs)) (now (z .args .ys)) (now (z .args .delays)) (z .args .budget) (p .ranged) (p .some) (p .few) (now (z .args .js)) (c .search-joins .last .1 .1 .1 .1 .1 .0) (c .search-joins .ensures .writes-js)
 
 embed-sound-requires : tie.Need-embed-sound-requires
 embed-sound-requires c κs =
-    let z = c .before .before .before .before .before .before .before .before .before .before .before .before .before .before .before in
+    let z = c .before .before .before .before .before .before .before .before .before .before .before .before .before .before .before .before in
     let p = z .pre .prepared in
     let e = pairs-lent (c .before .before .before .before .before .before .before .before .before) in
     record {
-      sound = record { sinks = p .ranged; joins = rw e (found-ordered (now (z .args .xs)) (now (z .args .ys)) (z .args .budget) (p .ranged) (p .some) (p .few)) };
+      sound = rw e (sound (p .ranged) (found-ordered (now (z .args .xs)) (now (z .args .ys)) (now (z .args .delays)) (z .args .budget) (p .ranged) (p .some) (p .few)));
       room-u = z .pre .room-u;
       room-v = z .pre .room-v;
       room-w = z .pre .room-w;
@@ -66,12 +67,12 @@ same-length-5 c = search needs
 
 returns : tie.Need-returns
 returns c =
-    let z = c .before .before .before .before .before .before .before .before .before .before .before .before .before .before .before .before .before .before .before .before .before in
+    let z = c .before .before .before .before .before .before .before .before .before .before .before .before .before .before .before .before .before .before .before .before .before .before in
     let j = c .before .before .before .before .before .before .before .before .before .before .before .before .before .before .before .search-joins in
     let e = pairs-lent (c .before .before .before .before .before .before .before .before .before .before .before .before .before .before .before) in
     let w = c .before .before .before .before .before .embed-sound in
     record {
-      finds = found-is (now (z .args .xs)) (now (z .args .ys)) (z .args .budget) (take (2 * (length (now (z .args .xs)) - 1) - 0) (j .last .1 .1 .1 .1 .0)) (w .result) (j .result) (c .all-steps .result) e (w .ensures .sums) (j .ensures .counts) (c .all-steps .ensures);
+      finds = found-is (now (z .args .xs)) (now (z .args .ys)) (now (z .args .delays)) (z .args .budget) (take (2 * (length (now (z .args .xs)) - 1) - 0) (j .last .1 .1 .1 .1 .1 .0)) (w .result) (j .result) (c .all-steps .result) e (w .ensures .sums) (j .ensures .counts) (c .all-steps .ensures);
       writes-table = j .ensures .writes-table;
       writes-js = j .ensures .writes-js;
       writes-u = rw e at (w .ensures .writes-u);

@@ -19,16 +19,16 @@ same-length c = search needs
 
 returns : tie.Need-returns
 returns c =
-    let a = c .before .before .before .before .before .before .before .before .before .args in
-    wrote-near (now (a .xs)) (now (a .ys)) (a .budget) (now (a .js)) (c .before .before .order-sound .last .1 .1 .0) (omega (arith, c .before .before .before .before .before .all-steps .ensures)) (c .before .before .order-sound .ensures)
+    let a = c .before .before .before .before .before .before .before .before .before .before .args in
+    wrote-near (now (a .xs)) (now (a .ys)) (now (a .delays)) (a .budget) (now (a .js)) (c .before .before .order-sound .last .1 .1 .1 .0) (omega (arith, c .before .before .before .before .before .all-steps .ensures)) (c .before .before .order-sound .ensures)
 
 same-length-2 : tie.Need-same-length-2
 same-length-2 c = search needs
 
 returns-2 : tie.Need-returns-2
 returns-2 c =
-    let a = c .before .before .before .before .before .before .before .before .before .args in
-    wrote-kept (now (a .xs)) (now (a .ys)) (a .budget) (now (a .ds)) (now (a .table)) (now (a .js)) (c .before .before .write-kept .last .1 .1 .1 .0) (c .before .before .before .before .before .before .before .before .before .pre) (omega (arith, c .before .before .before .before .before .all-steps .ensures)) (c .before .before .write-kept .ensures)
+    let a = c .before .before .before .before .before .before .before .before .before .before .args in
+    wrote-kept (now (a .xs)) (now (a .ys)) (now (a .delays)) (a .budget) (now (a .ds)) (now (a .table)) (now (a .js)) (c .before .before .write-kept .last .1 .1 .1 .0) (c .before .before .before .before .before .before .before .before .before .before .pre) (omega (arith, c .before .before .before .before .before .all-steps .ensures)) (c .before .before .write-kept .ensures)
 
 pub write-joins-spec : {M : Type 1} → statement M
 write-joins-spec =

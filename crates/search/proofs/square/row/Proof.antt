@@ -1,4 +1,4 @@
--- The invariant: the first j distances are in the row.
+-- The invariant: the first j entries are in the row.
 use mathlib.Core.Path.{_≡_, refl, _∙_}
 use denote.Ref.{now}
 use Prim.Native.Nat.{_≤_, _-_}
@@ -11,16 +11,16 @@ use Rattle.search.proofs.square.row.Statement.{statement}
 use Rattle.search.proofs.square.row.Tie as tie
 
 abbrev Inv-loop : tie.InvT-loop
-Inv-loop xs ys i r₀ j₀ r j = (j ≤ length xs) × (length r ≡ 12) × RowOf (sinksAt xs ys) i j r
+Inv-loop xs ys delays i r₀ j₀ r j = (j ≤ length xs) × (length r ≡ 12) × RowOf (sinksAt xs ys delays) i j r
 
 abbrev μ-loop : tie.MeasureT-loop
-μ-loop xs ys i r₀ j₀ r j = length xs - j
+μ-loop xs ys delays i r₀ j₀ r j = length xs - j
 
 loop-holds : tie.Need-loop-holds Inv-loop μ-loop
-loop-holds c = (omega arith, refl, row-begin (sinksAt (now (c .args .xs)) (now (c .args .ys))) (c .args .i))
+loop-holds c = (omega arith, refl, row-begin (sinksAt (now (c .before .args .xs)) (now (c .before .args .ys)) (now (c .before .args .delays))) (c .before .args .i))
 
-distance-requires : tie.Need-distance-requires Inv-loop μ-loop
-distance-requires c κs = let p = c .before .before .pre in (p .0, p .1, c .loop-test .taken)
+apart-requires : tie.Need-apart-requires Inv-loop μ-loop
+apart-requires c κs = let p = c .before .before .before .pre in (p .0, p .1, c .loop-test .taken)
 
 mul-r : tie.Need-mul-r Inv-loop μ-loop
 mul-r c = omega arith
@@ -36,13 +36,13 @@ loop-less c = omega arith
 
 loop-again : tie.Need-loop-again Inv-loop μ-loop
 loop-again c =
-    let a = c .before .before .before .args in
+    let a = c .before .before .before .before .args in
     let l = c .before .before .loop in
-    (omega arith, length-set (l .r) (l .j) (c .distance .result) ∙ l .inv .1, row-more (sinksAt (a .xs .now) (a .ys .now)) (a .i) (l .j) (c .distance .result) (l .r) (l .inv .2) (omega arith) (c .distance .ensures))
+    (omega arith, length-set (l .r) (l .j) (c .apart .result) ∙ l .inv .1, row-more (sinksAt (a .xs .now) (a .ys .now) (a .delays .now)) (a .i) (l .j) (c .apart .result) (l .r) (l .inv .2) (omega arith) (c .apart .ensures))
 
 returns : tie.Need-returns Inv-loop μ-loop
 returns c =
-    let e : c .before .loop .j ≡ length (now (c .before .before .args .xs)) = omega arith in
+    let e : c .before .loop .j ≡ length (now (c .before .before .before .args .xs)) = omega arith in
     rw e at (c .before .loop .inv .2)
 
 pub row-spec : {M : Type 1} → statement M
@@ -52,7 +52,7 @@ row-spec =
     Inv-loop
     μ-loop
     loop-holds
-    distance-requires
+    apart-requires
     mul-r
     array-write-r
     add-j

@@ -10,16 +10,16 @@ use Rattle.search.proofs.square.square.Statement.{statement}
 use Rattle.search.proofs.square.square.Tie as tie
 
 abbrev Inv-loop : tie.InvT-loop
-Inv-loop xs ys q₀ i₀ q i = (i ≤ length xs) × (length q ≡ 12) × RowsTo (sinksAt xs ys) i q
+Inv-loop xs ys delays q₀ i₀ q i = (i ≤ length xs) × (length q ≡ 12) × RowsTo (sinksAt xs ys delays) i q
 
 abbrev μ-loop : tie.MeasureT-loop
-μ-loop xs ys q₀ i₀ q i = length xs - i
+μ-loop xs ys delays q₀ i₀ q i = length xs - i
 
 loop-holds : tie.Need-loop-holds Inv-loop μ-loop
-loop-holds c = (omega arith, refl, rows-begin (sinksAt (now (c .args .xs)) (now (c .args .ys))))
+loop-holds c = (omega arith, refl, rows-begin (sinksAt (now (c .before .args .xs)) (now (c .before .args .ys)) (now (c .before .args .delays))))
 
 row-requires : tie.Need-row-requires Inv-loop μ-loop
-row-requires c κs = let p = c .before .before .pre in (p .0, c .loop-test .taken, p .1)
+row-requires c κs = let p = c .before .before .before .pre in (p .0, c .loop-test .taken, p .1)
 
 mul-q : tie.Need-mul-q Inv-loop μ-loop
 mul-q c = omega arith
@@ -35,18 +35,18 @@ loop-less c = omega arith
 
 loop-again : tie.Need-loop-again Inv-loop μ-loop
 loop-again c =
-    let a = c .before .before .before .args in
+    let a = c .before .before .before .before .args in
     let l = c .before .before .loop in (
       omega arith,
       length-set (l .q) (l .i) (c .row .result) ∙ l .inv .1,
-      rows-more (sinksAt (a .xs .now) (a .ys .now)) (l .i) (l .q) (c .row .result) (l .inv .2) (omega arith) (c .row .ensures),
+      rows-more (sinksAt (a .xs .now) (a .ys .now) (a .delays .now)) (l .i) (l .q) (c .row .result) (l .inv .2) (omega arith) (c .row .ensures),
     )
 
 returns : tie.Need-returns Inv-loop μ-loop
 returns c =
-    let a = c .before .before .args in
+    let a = c .before .before .before .args in
     let l = c .before .loop in
-    rows-end (sinksAt (now (a .xs)) (now (a .ys))) (l .i) (l .q) (l .inv .2) (omega arith)
+    rows-end (sinksAt (now (a .xs)) (now (a .ys)) (now (a .delays))) (l .i) (l .q) (l .inv .2) (omega arith)
 
 pub square-spec : {M : Type 1} → statement M
 square-spec =
