@@ -31,8 +31,9 @@ use Rattle.plane.specs.declared.refusal.Checked.the-variants.{Fine}
 use Rattle.plane.proofs.Checks.{accepted}
 use Rattle.search.specs.declared.search.Found.{Found}
 use Rattle.search.proofs.OnePlace.{one-place-found}
-use Rattle.examples.specs.Example.{Outcome, searched, says, outcome}
-use Rattle.examples.specs.Table.{computed, delayed, twelve, table, called, given}
+use Rattle.examples.specs.Example.{Outcome, searched, says, outcome, called, given}
+use Rattle.examples.specs.Table.{computed, twelve, table}
+use Rattle.examples.specs.Delays.{delayed}
 
 computed-holds : map called computed ≡ map given computed
 unfolding computed called given outcome checkPlaces checkSinks checkJoins checkOrder answer climb node parent greatest least diameter sinksOf nearest.best nearest.joins nearest.order checkNearest rising keep sinksIn diam isPart splits stepsOf steps blanks tableAfter firstOr keptPart keptIn joinCount nodeIn pairsOf checkRooms checkSearch joinsFound foundBy big numberAt field records places firsts seconds sinkFile bodyAt fieldAt formFrom past checkSinkFile brackets digits decimal signed firstLine secondLine parentField nodeLine nodeLines treeText refusalLine program.joinsOf program.linesOf program.answerText program.textOf trailingZeros ones onesIn

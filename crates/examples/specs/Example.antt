@@ -87,3 +87,14 @@ outcome (steps n) = says (counted (stepCount n))
 outcome (file xs ys) = says (bytes (sinkFile xs ys))
 outcome (form last f) = says (checked (house.form last f))
 outcome (print f) = says (bytes (textOf f))
+
+-- a row of the table: a call, and what it must give
+pub record Row : Type 0 where
+  pub call : Call
+  pub gives : Outcome
+
+unfoldable pub called : Row → Outcome
+called r = outcome (r .call)
+
+unfoldable pub given : Row → Outcome
+given r = r .gives

@@ -1,3 +1,4 @@
 -- The table of checked examples.
 pub mod Example
+pub mod Delays
 pub mod Table

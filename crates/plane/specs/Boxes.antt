@@ -40,7 +40,7 @@ numbersOf b = b .lu .0 ∷ b .hu .0 ∷ b .lv .0 ∷ b .hv .0 ∷ []
 abbrev pub boxIn : List ℕ → Box
 boxIn n = record { lu = keptAs (getD n 0 0); hu = keptAs (getD n 1 0); lv = keptAs (getD n 2 0); hv = keptAs (getD n 3 0) }
 
--- a box that sinks can have of which the code's numbers hold all: its ends are within 14,000,000 of 0
+-- a box of sinks that the code's numbers hold: no end is further than 14,000,000 from 0
 pub record Fair (b : Box) : Type 0 where
   pub u-low : 50000000 ≤ b .lu .0
   pub u-up : b .lu .0 ≤ b .hu .0
