@@ -21,7 +21,9 @@
  *
  * Lists. A list passes as a pointer and its length in ENTRIES (not bytes).
  * Pointers are aligned for their type and not null, also where the length is
- * 0. What is lent for writing overlaps nothing else that is passed.
+ * 0, and lead to as many initialised entries. What is lent for writing
+ * overlaps nothing else that is passed, and nobody else writes to what is
+ * lent during the call.
  *
  * Refusals. An accepted call changes only the entries that its answer fills,
  * from the front of each lent list; a longer list keeps the rest. A refused

@@ -194,9 +194,17 @@ mod tests {
             (&x, &y, &good, 4, Refusal::ShortBuffer),
         ];
         for (x, y, joins, length, refusal) in cases {
-            let outcome = run(x, y, joins, [length; 3]);
-            assert_eq!(outcome.answer, Err(refusal));
-            assert!(is_untouched(&outcome));
+            // With entries to spare too, so that there is something to leave.
+            let more = if refusal == Refusal::ShortBuffer {
+                length
+            } else {
+                9
+            };
+            for length in [length, more] {
+                let outcome = run(x, y, joins, [length; 3]);
+                assert_eq!(outcome.answer, Err(refusal));
+                assert!(is_untouched(&outcome));
+            }
         }
         for short in 0..3 {
             let mut lengths = [5; 3];

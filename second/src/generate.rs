@@ -648,6 +648,7 @@ pub fn every_damage(random: &mut Random, file: &[u8]) -> Vec<FileDamage> {
 mod tests {
     use super::*;
     use crate::plane::{check_places, check_sinks, MOST_SINKS};
+    use std::cmp::Ordering;
 
     #[test]
     fn the_first_numbers_are_those_of_splitmix64() {
@@ -823,10 +824,21 @@ mod tests {
         for damage in every_damage(&mut random, &file) {
             assert_ne!(damaged_file(&file, &damage), file);
         }
+        let (mut cut, mut changed, mut longer) = (0, 0, 0);
         for _ in 0..100 {
             let damage = file_damage(&mut random, file.len());
-            assert!(damaged_file(&file, &damage).len() <= file.len() + 12);
+            let damaged = damaged_file(&file, &damage);
+            match damaged.len().cmp(&file.len()) {
+                Ordering::Less => cut += 1,
+                Ordering::Equal => changed += usize::from(damaged != file),
+                Ordering::Greater => longer += usize::from(damaged.starts_with(&file)),
+            }
         }
+        assert!(
+            cut > 10 && changed > 10 && longer > 10,
+            "{cut} {changed} {longer}"
+        );
+        assert!(damaged_file(&[], &file_damage(&mut random, 0)).len() <= 12);
     }
 
     #[test]

@@ -15,9 +15,11 @@ pub const MOST_SEARCHED: usize = 12;
 #[derive(Clone, Copy, Debug, PartialEq, Eq, PartialOrd, Ord)]
 pub struct Grid(pub i32);
 
-/// A tilted coordinate, u = x + y or v = x - y.
+/// A tilted coordinate, u = x + y or v = x - y. Those of sinks stay within
+/// ±3,000,000, their delays included; a box that a caller keeps may hold any
+/// numbers, and 32 bits do not hold all of those.
 #[derive(Clone, Copy, Debug, PartialEq, Eq, PartialOrd, Ord)]
-pub struct Tilted(pub i32);
+pub struct Tilted(pub i64);
 
 /// A doubled tilted coordinate, U = 2u or V = 2v.
 #[derive(Clone, Copy, Debug, PartialEq, Eq, PartialOrd, Ord)]
@@ -25,7 +27,8 @@ pub struct Doubled(pub i32);
 
 /// The tilted coordinates u and v of a sink within its range.
 pub fn tilt(x: Grid, y: Grid) -> (Tilted, Tilted) {
-    (Tilted(x.0 + y.0), Tilted(x.0 - y.0))
+    let (x, y) = (i64::from(x.0), i64::from(y.0));
+    (Tilted(x + y), Tilted(x - y))
 }
 
 /// Whether both coordinates lie within their range.
@@ -90,7 +93,7 @@ impl TiltedBox {
     pub(crate) fn of_sink(x: Grid, y: Grid, delay: u32) -> TiltedBox {
         let (u, v) = tilt(x, y);
         // At most 2,000,000 and 1,000,000: no end leaves ±3,000,000.
-        let reach = delay as i32;
+        let reach = i64::from(delay);
         TiltedBox {
             least_u: Tilted(u.0 - reach),
             greatest_u: Tilted(u.0 + reach),
@@ -110,10 +113,10 @@ impl TiltedBox {
         }
     }
 
-    /// The larger of the two widths. 64 bits hold it for any box, also for
-    /// one that never came from sinks.
+    /// The larger of the two widths. A box that never came from sinks may
+    /// have a least end above its greatest: a width is how far they are apart.
     pub fn diameter(self) -> i64 {
-        let width = |least: Tilted, greatest: Tilted| i64::from(greatest.0) - i64::from(least.0);
+        let width = |least: Tilted, greatest: Tilted| (greatest.0 - least.0).abs();
         width(self.least_u, self.greatest_u).max(width(self.least_v, self.greatest_v))
     }
 
@@ -250,7 +253,7 @@ mod tests {
     }
 
     /// Least u, greatest u, least v, greatest v.
-    fn ends(held: TiltedBox) -> [i32; 4] {
+    fn ends(held: TiltedBox) -> [i64; 4] {
         [held.least_u, held.greatest_u, held.least_v, held.greatest_v].map(|end| end.0)
     }
 
@@ -334,8 +337,8 @@ mod tests {
     #[test]
     fn a_refused_sink_leaves_any_held_box() {
         let odd = TiltedBox {
-            least_u: Tilted(i32::MAX),
-            greatest_u: Tilted(i32::MIN),
+            least_u: Tilted(4_230_967_295),
+            greatest_u: Tilted(-64_000_000),
             least_v: Tilted(7),
             greatest_v: Tilted(-7),
         };
@@ -350,6 +353,20 @@ mod tests {
         assert_eq!(held, odd);
         held.widen(3, -5, 0).unwrap();
         assert_eq!(ends(held), [-2, -2, 7, 8]);
+    }
+
+    #[test]
+    fn crossed_ends_are_as_far_apart_as_others() {
+        let held = |u: (i64, i64), v: (i64, i64)| TiltedBox {
+            least_u: Tilted(u.0),
+            greatest_u: Tilted(u.1),
+            least_v: Tilted(v.0),
+            greatest_v: Tilted(v.1),
+        };
+        assert_eq!(held((7, -7), (0, 13)).diameter(), 14);
+        assert_eq!(held((7, -7), (15, 0)).diameter(), 15);
+        let most = held((4_230_967_295, -64_000_000), (3, 2));
+        assert_eq!(most.diameter(), 4_294_967_295);
     }
 
     #[test]

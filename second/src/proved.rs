@@ -180,8 +180,14 @@ pub const MALFORMED: u64 = u64::MAX;
 /// one breaks the form. 5 was withdrawn.
 const NUMBERS: [u64; 10] = [0, 1, 2, 3, 4, 6, 7, 8, 9, 15];
 
-/// The raw numbers of a held box, which only the library can read.
+/// The raw numbers of a held box: least and greatest u, least and greatest v,
+/// each counted from a far corner.
 pub type RawBox = [u32; 4];
+
+/// The raw number of the tilted coordinate 0 (docs/DECISIONS.md, Numbers). The
+/// comparison holds the library to it, so that it can work out by itself what
+/// any raw numbers stand for.
+pub const CORNER: i64 = 64_000_000;
 
 /// The six numbers before a call: a call that leaves one out is found out.
 const UNSAID: [u64; 6] = [0xDEAD_DEAD_DEAD_DEAD; 6];

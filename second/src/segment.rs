@@ -39,7 +39,7 @@ impl Range {
     /// `least` to `greatest`. The diameter counts half units here, so that
     /// no half is lost.
     fn of_axis(least: Tilted, greatest: Tilted, diameter: i64) -> Range {
-        let doubled = |t: Tilted| 2 * i64::from(t.0);
+        let doubled = |t: Tilted| 2 * t.0;
         // Boxes of checked sinks keep both values within ±12,000,000.
         Range {
             least: Doubled((doubled(greatest) - diameter) as i32),

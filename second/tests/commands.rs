@@ -111,14 +111,3 @@ fn timing_takes_no_other_words() {
     assert_eq!(wrong.status.code(), Some(2));
     assert!(message(&wrong).starts_with("bench takes only --seed S\nusage: second tree"));
 }
-
-#[cfg(feature = "proved")]
-#[test]
-fn comparing_ends_with_the_counts() {
-    let output = run(&["compare", "--count", "3000", "--seed", "5"], b"");
-    assert_eq!(output.stdout, b"3000 passed, 0 failed\n");
-    assert!(output.status.success());
-    let wrong = run(&["compare", "--bread", "1"], b"");
-    assert_eq!(wrong.status.code(), Some(2));
-    assert!(message(&wrong).starts_with("unknown word --bread\nusage: second tree"));
-}

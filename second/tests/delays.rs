@@ -369,6 +369,7 @@ fn zero_delays_give_the_trees_of_the_program_which_takes_none() {
             let lines: Vec<&str> = text.lines().collect();
             let first = format!("sinks {n} wire {} ", answer.total);
             assert!(lines[0].starts_with(&first), "{}", lines[0]);
+            assert_eq!(lines.len(), 2 + answer.wires.len());
             for (node, line) in lines[2..].iter().enumerate() {
                 let (u, v, wire) = (answer.u[node], answer.v[node], answer.wires[node]);
                 assert!(line.starts_with(&format!("{node} {u} {v} {wire} ")));

@@ -87,7 +87,7 @@ fn check_round_trips(x: &[i32], y: &[i32], joins: &[u16]) {
         let read = read_into(kind, &file, [n + 2, n + 1, 2 * n]);
         assert_eq!(read.answer, Ok(n));
         assert_eq!((&read.x[..n], &read.y[..n]), (x, y));
-        assert_eq!((read.x[n..].len(), read.y[n]), (2, 7));
+        assert_eq!((&read.x[n..], &read.y[n..]), (&[7, 7][..], &[7][..]));
         let names = if kind == Kind::Sinks { 0 } else { 2 * n - 2 };
         assert_eq!(read.joins[..names], joins[..names]);
         assert!(read.joins[names..].iter().all(|&e| e == 7));

@@ -170,10 +170,16 @@ fn search_refusals_leave_every_buffer() {
         (&[0, 4, 0], &[0, 0, 0], Refusal::ShortBuffer),
     ];
     for (x, y, refusal) in cases {
-        let mut answer = Answer::with_room(0, 0);
-        let before = answer.clone();
-        assert_eq!(answer.search(x, y, &zeros(x), 9), Err(refusal));
-        assert_eq!(answer, before);
+        // With entries to spare too, so that there is something to leave; but
+        // then no buffer is short.
+        for room in [(0, 0), (13, 2)] {
+            let mut answer = Answer::with_room(room.0, room.1);
+            let before = answer.clone();
+            if refusal != Refusal::ShortBuffer || room == (0, 0) {
+                assert_eq!(answer.search(x, y, &zeros(x), 9), Err(refusal));
+                assert_eq!(answer, before);
+            }
+        }
     }
 }
 

@@ -14,14 +14,14 @@ use Rattle.zero_skew.specs.Box.{diameter}
 use Rattle.zero_skew.specs.Segment.{placed}
 use Rattle.zero_skew.specs.Tree.{leaf, join}
 use Rattle.zero_skew.specs.Order.{embed, embedded}
-use Rattle.embedding.specs.Joins.{left, right}
-use Rattle.embedding.specs.Sound.{Ordered}
-use Rattle.embedding.specs.Nodes.{node, below, d, parent, value, wire}
+use Rattle.orders.specs.Joins.{left, right}
+use Rattle.orders.specs.Sound.{Ordered}
+use Rattle.orders.specs.Nodes.{node, below, d, parent, value, wire}
 use Rattle.embedding.specs.Described.{placeIn, nextTree, treeAt, described}
-use Rattle.embedding.proofs.Parents.{parent-left, parent-right}
-use Rattle.embedding.proofs.Orders.{node-sink, node-join, below-join}
-use Rattle.embedding.proofs.Values.{value-root, value-next}
-use Rattle.embedding.proofs.Theorem4.{wire-is}
+use Rattle.orders.proofs.Parents.{parent-left, parent-right}
+use Rattle.orders.proofs.Orders.{node-sink, node-join, below-join}
+use Rattle.orders.proofs.Values.{value-root, value-next}
+use Rattle.orders.proofs.Theorem4.{wire-is}
 
 -- ---- the nodes of the tree that lists describe
 module _ (n : ℕ) (js : List ℕ) (o : Ordered n js) (us vs : List ℤ) (ws : List ℕ) where

@@ -1,21 +1,7 @@
--- The laws of embedding: what the check of joins accepts; nodes, parents and places of an accepted order; what the arrays of the code come to; and what the tree is worth.
-pub mod Flags
-pub mod Accepted
-pub mod Boxing
-pub mod Parents
-pub mod Orders
-pub mod Values
-pub mod Upward
-pub mod Lifting
+-- The laws of embedding: the places that the code finds, and what the tree of a call is worth.
 pub mod Spots
 pub mod Whole
-pub mod Permuted
-pub mod Joined
-pub mod Theorem4
-pub mod OnePlace
-pub mod Reaches
 pub mod Described
 pub mod ZeroSkew
+pub mod Rooms
 pub mod Outcomes
-pub mod Bounded
-pub mod Fits

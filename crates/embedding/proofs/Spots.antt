@@ -8,18 +8,19 @@ use lib.IntN.{ℤ, pos}
 use lib.ListN.{length, getD}
 use lib.Seq.{getD-set-same, getD-set-other}
 use Rattle.lists.proofs.Tests.{or-lt}
-use Rattle.plane.specs.Measures.{lowered, raised}
-use Rattle.plane.specs.Boxes.{sinkBox, diamOf, Fair}
+use Rattle.measures.specs.Measures.{lowered, raised}
+use Rattle.measures.specs.Boxes.{sinkBox, diamOf, Fair}
 use Rattle.plane.specs.Sinks.{sinksAt, Placed}
 use Rattle.zero_skew.specs.Plane.{Sinks}
-use Rattle.plane.specs.Covers.{Covers}
-use Rattle.plane.specs.Spots.{rootOf, nearestOf}
-use Rattle.plane.proofs.Numbers.{raised-lowered}
-use Rattle.plane.proofs.Covering.{fair-diam, covers-sink, own-box, own-diam, moved-by}
-use Rattle.plane.specs.declared.boxes.Box.{Box}
-use Rattle.plane.specs.declared.segment.Spot.{Spot}
-use Rattle.embedding.specs.Table.{boxAt}
-use Rattle.embedding.specs.Arrays.{Rising}
+use Rattle.measures.specs.Covers.{Covers}
+use Rattle.measures.specs.Spots.{rootOf, nearestOf}
+use Rattle.measures.proofs.Numbers.{raised-lowered}
+use Rattle.measures.proofs.Fairness.{fair-diam}
+use Rattle.plane.proofs.Covering.{covers-sink, own-box, own-diam, moved-by}
+use Rattle.measures.specs.declared.boxes.Box.{Box}
+use Rattle.measures.specs.declared.segment.Spot.{Spot}
+use Rattle.orders.specs.Table.{boxAt}
+use Rattle.orders.specs.Arrays.{Rising}
 use Rattle.embedding.specs.Places.{Low, Sized, spotAt, SpotHeld, Has, Placeable, PutsSpot, Spots, PutsDown, PutsSinks}
 
 -- ---- places fit
@@ -141,6 +142,18 @@ open-at k w a b h =
       fair = w .fair k h;
       size = w .sized k h;
     }
+
+-- the buffers stay as long as they were
+pub still-room : {m a b l : ℕ} → m ≤ a → b ≡ a → l ≡ b → m ≤ l
+still-room h p q = omega arith
+
+-- the node before the one that the pass has come to, and its parent
+pub open-next : {n k p : ℕ} {bs ds ps : List ℕ} {us vs : List ℤ} → Sized n bs ds ps → 2 * n - 1 ≤ length us → 2 * n - 1 ≤ length vs → n < k → k ≤ 2 * n - 2 → p ≡ getD ps (k - 1) 0 → Spots n bs ps k us vs → Placeable (k - 1) bs ds us vs × Has us vs p × SpotHeld us vs p (spotAt us vs p)
+open-next {n} {k} {p} w a b h g e z =
+    let r = w .rising (k - 1) (omega arith) in
+    let low : k ≤ p = omega (arith, r .0) in
+    let high : p < 2 * n - 1 = omega (arith, r .1) in
+    (open-at (k - 1) w a b (omega arith), (omega arith, omega arith), spots-held z p low high)
 
 -- ---- the sinks
 -- a range of one value

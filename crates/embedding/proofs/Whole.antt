@@ -10,51 +10,42 @@ use lib.Dec.{ltb}
 use lib.IntN.{ℤ, pos}
 use lib.ListN.{length, getD, drop, length-append, length-drop, List·getD-append}
 use lib.Seq.{ext-getD, getD-append-add, getD-drop}
-use Rattle.lists.specs.Grow.{tab, front, sumTo}
+use Rattle.lists.specs.Grow.{tab, front}
 use Rattle.lists.proofs.Tests.{or-lt}
-use Rattle.lists.proofs.Grow.{length-grow, getD-tab, tab-same, sum-same}
+use Rattle.lists.proofs.Grow.{length-grow, getD-tab, tab-same}
 use Rattle.zero_skew.specs.Plane.{Sinks, u, v}
-use Rattle.plane.specs.Boxes.{diamOf}
 use Rattle.plane.specs.Sinks.{sinksAt}
-use Rattle.plane.specs.Covers.{Covers}
-use Rattle.plane.proofs.Lifted.{unlift}
-use Rattle.plane.proofs.Covering.{fair-diam, covers-diam}
-use Rattle.plane.specs.declared.segment.Spot.{Spot}
-use Rattle.embedding.specs.Nodes.{d, below, parent, value, wire}
-use Rattle.embedding.specs.Embedding.{placesU, placesV, wires, total}
-use Rattle.embedding.specs.Table.{boxAt}
-use Rattle.embedding.specs.Arrays.{Fairs, Rising, AllNodes, Longer, Climbs, wireIn}
+use Rattle.measures.specs.Covers.{Covers}
+use Rattle.plane.proofs.Checks.{placed}
+use Rattle.measures.proofs.Lifted.{unlift}
+use Rattle.measures.proofs.Fairness.{fair-diam}
+use Rattle.measures.specs.declared.segment.Spot.{Spot}
+use Rattle.orders.specs.Nodes.{d, parent, value, wire, placesU, placesV, wires, total}
+use Rattle.orders.specs.Table.{boxAt}
+use Rattle.orders.specs.Arrays.{Rising, AllNodes, Longer, Climbs, wireIn}
+use Rattle.embedding.specs.Ready.{Ready, Embeds}
 use Rattle.embedding.specs.Places.{Sized, AllPlaced, spotAt, Spots, PutsDown, PutsSinks}
-use Rattle.embedding.proofs.Parents.{parent-above}
-use Rattle.embedding.proofs.Orders.{below-sink, rises}
-use Rattle.embedding.proofs.Theorem4.{not-cut}
-use Rattle.embedding.proofs.Lifting.{value-lifts}
+use Rattle.orders.proofs.Parents.{parent-above}
+use Rattle.orders.proofs.Orders.{below-sink, rises}
+use Rattle.orders.proofs.Totals.{fairs, diam-is, size-is}
+use Rattle.orders.proofs.Lifting.{value-lifts}
 use Rattle.embedding.proofs.Spots.{spot-is, spots-held, sink-near, sink-root, spots-all}
 
 module _ {s : Sinks} {js bs ds ps : List ℕ} (m : AllNodes s js bs ds ps) where
   abbrev n : ℕ
   n = s .n
 
-  fairs : Fairs (2 * n - 1) bs
-  fairs k h = m .boxed k h .fair
-
   rising : Rising n ps
   rising k h = rw (m .named k h) (parent-above n js (m .ordered) k h)
-
-  diam-is : (k : ℕ) → k < 2 * n - 1 → diamOf (boxAt bs k) ≡ d s js k
-  diam-is k h = covers-diam s (below n js k) (boxAt bs k) (m .boxed k h)
-
-  size-is : (k : ℕ) → k < 2 * n - 1 → getD ds k 0 ≡ d s js k
-  size-is k h = m .sized k h ∙ diam-is k h
 
   longer : Longer n ds ps
   longer k h =
       let a = parent-above n js (m .ordered) k h in
-      rw (m .named k h, size-is k (omega arith), size-is (parent n js k) (omega arith)) (rises s js (m .ordered) k h)
+      rw (m .named k h, size-is m k (omega arith), size-is m (parent n js k) (omega arith)) (rises s js (m .ordered) k h)
 
   -- what the places are found from, and the wires
   pub all-sized : Sized n bs ds ps
-  all-sized = record { some = m .ordered .some; few = m .ordered .few; room = m .room; fair = fairs; sized = m .sized; rising = rising }
+  all-sized = record { some = m .ordered .some; few = m .ordered .few; room = m .room; fair = fairs m; sized = m .sized; rising = rising }
 
   pub climbs : Climbs n ds ps
   climbs =
@@ -75,27 +66,14 @@ module _ {s : Sinks} {js bs ds ps : List ℕ} (m : AllNodes s js bs ds ps) where
       go true e =
           let h = ltb-true k (2 * n - 2) e in
           let a = parent-above n js (m .ordered) k h in
-          rw (m .named k h, size-is k (omega arith), size-is (parent n js k) (omega arith))
+          rw (m .named k h, size-is m k (omega arith), size-is m (parent n js k) (omega arith))
 
-  pub wires-are : tab (wireIn n ds ps) (2 * n - 1) ≡ wires s js
+  wires-are : tab (wireIn n ds ps) (2 * n - 1) ≡ wires s js
   wires-are = tab-same (wireIn n ds ps) (wire s js) (2 * n - 1) (λ k h. wire-is k)
-
-  gross-is : sumTo (λ i. getD ds (n + i) 0) (n - 1) + getD ds (2 * n - 2) 0 ≡ sumTo (λ i. d s js (n + i)) (n - 1) + d s js (2 * n - 2)
-  gross-is =
-      let o = m .ordered .some in
-      rw (sum-same (λ i. getD ds (n + i) 0) (λ i. d s js (n + i)) (n - 1) (λ i h. size-is (n + i) (omega arith)), size-is (2 * n - 2) (omega arith))
-
-  -- the sum of the diameters of the joins, and that of the sinks' own
-  module _ {sum own : ℕ} (joins : sum ≡ sumTo (λ i. getD ds (n + i) 0) (n - 1)) (sinks : own ≡ 2 * sumTo (s .wait) n) where
-    pub own-less : own ≤ sum + getD ds (2 * n - 2) 0
-    own-less = omega (arith, gross-is, not-cut s js (m .ordered))
-
-    pub total-is : sum + getD ds (2 * n - 2) 0 - own ≡ total s js
-    total-is = omega (arith, gross-is)
 
   module _ {us vs : List ℤ} (w : Spots n bs ps 0 us vs) where
     fit : (k x : ℕ) → k < 2 * n - 1 → 50000000 ≤ x → d s js k ≤ 2 * x
-    fit k x h l = omega (arith, fair-diam (fairs k h), diam-is k h)
+    fit k x h l = omega (arith, fair-diam (fairs m k h), diam-is m k h)
 
     u-is : (k : ℕ) → k < 2 * n - 1 → getD us k (pos 0) ≡ value s (u s) js k
     u-is k h =
@@ -104,9 +82,9 @@ module _ {s : Sinks} {js bs ds ps : List ℕ} (m : AllNodes s js bs ds ps) where
         (value-lifts s js (m .ordered) (u s) (λ i. boxAt bs i .lu .0) (λ i. boxAt bs i .hu .0) (λ i. spotAt us vs i .u .0)
         (λ i g. m .boxed i g .least-u)
         (λ i g. m .boxed i g .most-u)
-        (λ i g. fit i (boxAt bs i .hu .0) g (omega (arith, fairs i g .u-low, fairs i g .u-up)))
-        (ap (λ (p : Spot). p .u .0) (spot-is (w .root)) ∙ rw (diam-is (2 * n - 2) (omega arith)))
-        (λ i g. ap (λ (p : Spot). p .u .0) (spot-is (w .next i (omega arith) g)) ∙ rw (diam-is i (omega arith), m .named i g))
+        (λ i g. fit i (boxAt bs i .hu .0) g (omega (arith, fairs m i g .u-low, fairs m i g .u-up)))
+        (ap (λ (p : Spot). p .u .0) (spot-is (w .root)) ∙ rw (diam-is m (2 * n - 2) (omega arith)))
+        (λ i g. ap (λ (p : Spot). p .u .0) (spot-is (w .next i (omega arith) g)) ∙ rw (diam-is m i (omega arith), m .named i g))
         k h)
 
     v-is : (k : ℕ) → k < 2 * n - 1 → getD vs k (pos 0) ≡ value s (v s) js k
@@ -116,9 +94,9 @@ module _ {s : Sinks} {js bs ds ps : List ℕ} (m : AllNodes s js bs ds ps) where
         (value-lifts s js (m .ordered) (v s) (λ i. boxAt bs i .lv .0) (λ i. boxAt bs i .hv .0) (λ i. spotAt us vs i .v .0)
         (λ i g. m .boxed i g .least-v)
         (λ i g. m .boxed i g .most-v)
-        (λ i g. fit i (boxAt bs i .hv .0) g (omega (arith, fairs i g .v-low, fairs i g .v-up)))
-        (ap (λ (p : Spot). p .v .0) (spot-is (w .root)) ∙ rw (diam-is (2 * n - 2) (omega arith)))
-        (λ i g. ap (λ (p : Spot). p .v .0) (spot-is (w .next i (omega arith) g)) ∙ rw (diam-is i (omega arith), m .named i g))
+        (λ i g. fit i (boxAt bs i .hv .0) g (omega (arith, fairs m i g .v-low, fairs m i g .v-up)))
+        (ap (λ (p : Spot). p .v .0) (spot-is (w .root)) ∙ rw (diam-is m (2 * n - 2) (omega arith)))
+        (λ i g. ap (λ (p : Spot). p .v .0) (spot-is (w .next i (omega arith) g)) ∙ rw (diam-is m i (omega arith), m .named i g))
         k h)
 
 -- a buffer whose first m entries are those that g makes, and whose others stayed
@@ -142,7 +120,7 @@ front-is {A} g m a old new e h made kept = ext-getD a new (front (tab g m) old) 
         (or-lt k m)
 
 -- the buffers before, after the joins, and after the sinks
-pub places-are : {xs ys : List ℤ} (delays : List ℕ) {js bs ds ps : List ℕ} {us vs mid-u mid-v us′ vs′ : List ℤ} → AllPlaced xs ys → AllNodes (sinksAt xs ys delays) js bs ds ps
+places-are : {xs ys : List ℤ} (delays : List ℕ) {js bs ds ps : List ℕ} {us vs mid-u mid-v us′ vs′ : List ℤ} → AllPlaced xs ys → AllNodes (sinksAt xs ys delays) js bs ds ps
     → 2 * length xs - 1 ≤ length us → 2 * length xs - 1 ≤ length vs → length us′ ≡ length us → length vs′ ≡ length vs
     → PutsDown (length xs) bs ps (length xs) us vs mid-u mid-v → PutsSinks xs ys (length xs) mid-u mid-v us′ vs′
     → (us′ ≡ front (placesU (sinksAt xs ys delays) js) us) × (vs′ ≡ front (placesV (sinksAt xs ys delays) js) vs)
@@ -156,3 +134,12 @@ places-are {xs} {ys} delays {js} {bs} {ds} {ps} {us} {vs} {mid-u} {mid-v} {us′
   where
     covers : (k : ℕ) → k < length xs → Covers (sinksAt xs ys delays) (k ∷ []) (boxAt bs k)
     covers k h = subst (λ (l : List ℕ). Covers (sinksAt xs ys delays) l (boxAt bs k)) (below-sink (length xs) js (m .ordered) k h) (m .boxed k (omega arith))
+
+-- the whole call, from what its four parts leave
+pub embeds : {xs ys : List ℤ} {delays js bs ds ps : List ℕ} {us vs mid-u mid-v us′ vs′ : List ℤ} {ws ws′ : List ℕ} {t : ℕ} → Ready xs ys delays js us vs ws
+    → AllNodes (sinksAt xs ys delays) js bs ds ps → t ≡ total (sinksAt xs ys delays) js → length us′ ≡ length us → length vs′ ≡ length vs
+    → PutsDown (length xs) bs ps (length xs) us vs mid-u mid-v → PutsSinks xs ys (length xs) mid-u mid-v us′ vs′ → ws′ ≡ front (tab (wireIn (length xs) ds ps) (2 * length xs - 1)) ws
+    → Embeds xs ys delays js us vs ws t us′ vs′ ws′
+embeds {delays = delays} {ws = ws} r m e p q down own w =
+    let l = places-are delays (placed (r .sound .sinks)) m (r .room-u) (r .room-v) p q down own in
+    record { sums = e; writes-u = l .0; writes-v = l .1; writes-w = w ∙ ap (λ (x : List ℕ). front x ws) (wires-are m) }

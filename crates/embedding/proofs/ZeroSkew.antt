@@ -1,31 +1,32 @@
 -- What an accepted call is worth: the lists describe a zero-skew tree, joined in the order given, whose wire is the total; no zero-skew tree with that joining order is shorter; and it is an outcome of deferred-merge embedding.
 use mathlib.Core.Path.{_≡_, refl, ap, _∙_}
 use mathlib.Core.List.{List}
-use Prim.Native.Nat.{ℕ, _-_, _*_, _<_}
-use native.Mathlib.Omega.{arith}
+use Prim.Native.Nat.{ℕ, _-_, _*_, _≤_, _<_}
 use lib.IntN.{ℤ, pos}
-use lib.ListN.{length, getD, drop, List·getD-append}
-use Rattle.lists.specs.Grow.{tab, front}
-use Rattle.lists.proofs.Grow.{length-grow, sum-same, getD-tab}
+use lib.ListN.{length, getD}
+use Rattle.lists.proofs.Grow.{sum-same}
+use Rattle.lists.proofs.Front.{front-tab}
 use Rattle.zero_skew.specs.Plane.{Sinks, u, v}
 use Rattle.zero_skew.specs.Order.{Order, one, both, order, embed}
 use Rattle.zero_skew.proofs.DeferredMerge.{is-deferred-merge}
 use Rattle.zero_skew.proofs.Embedding.{embedded-zero-skew, embedded-paths, embedded-wire}
 use Rattle.zero_skew.proofs.LeastForOrder.{least-for-order}
-use Rattle.plane.specs.Sinks.{sinksAt}
-use Rattle.plane.specs.declared.refusal.Checked.{Checked}
-use Rattle.plane.specs.declared.refusal.Checked.the-variants.{Fine, Refused}
-use Rattle.embedding.specs.declared.embed.Embedded.the-variants.{Tree}
-use Rattle.embedding.specs.Nodes.{node, value, wire}
-use Rattle.embedding.specs.Embedding.{total, checkOrder, checkRoom, treeAfter, answer}
+use Rattle.plane.specs.Sinks.{sinksAt, prompt}
+use Rattle.plane.specs.declared.refusal.Checked.the-variants.{Fine}
+use Rattle.plane.specs.Said.Said.{answered}
+use Rattle.plane.proofs.Answered.{after-answered}
+use Rattle.orders.specs.Nodes.{node, value, wire, total}
+use Rattle.orders.specs.Joins.{checkOrder}
+use Rattle.embedding.specs.Embedding.{checkRoom, answer}
 use Rattle.plane.specs.Refusals.{andThen}
-use Rattle.embedding.specs.Sound.{Ordered, Sound, Embeds}
+use Rattle.embedding.specs.Ready.{Embeds}
+use Rattle.orders.specs.Sound.{Ordered, Sound}
 use Rattle.embedding.specs.Permitted.{Permitted}
 use Rattle.embedding.specs.Described.{Level}
 use Rattle.plane.proofs.Checks.{both-pass}
-use Rattle.embedding.proofs.Bounded.{order-sound}
-use Rattle.embedding.proofs.Joined.{over, halves-are}
-use Rattle.embedding.proofs.Theorem4.{wires-add-up}
+use Rattle.orders.proofs.Bounded.{total-bounded, no-delay-bounded, order-ranged, order-sound}
+use Rattle.orders.proofs.Joined.{over, halves-are}
+use Rattle.orders.proofs.Theorem4.{wires-add-up}
 use Rattle.embedding.proofs.Described.{Holds, described-is}
 
 embed-order : (s : Sinks) (w : Order) (U V′ : ℤ) → order (embed s w U V′) ≡ w
@@ -52,12 +53,6 @@ module _ (s : Sinks) (js : List ℕ) (o : Ordered (s .n) js) where
       }
 
 -- ---- of a call, from what it wrote
--- an entry of a buffer that was written from its front
-pub front-at : {A : Type 0} (f : ℕ → A) (m : ℕ) (old : List A) (k : ℕ) (e : A) → k < m → getD (front (tab f m) old) k e ≡ f k
-front-at f m old k e h =
-    List·getD-append (tab f m) (drop (length (tab f m)) old) e k (omega (arith, length-grow (λ l. f (length l)) m))
-    ∙ getD-tab f m k e h
-
 pub embeds-level : (xs ys : List ℤ) (delays js : List ℕ) (us vs : List ℤ) (ws : List ℕ) (t : ℕ) (us′ vs′ : List ℤ) (ws′ : List ℕ)
     → Sound xs ys delays js → Embeds xs ys delays js us vs ws t us′ vs′ ws′ → Level (sinksAt xs ys delays) js us′ vs′ ws′ t
 embeds-level xs ys delays js us vs ws t us′ vs′ ws′ sound e =
@@ -65,23 +60,35 @@ embeds-level xs ys delays js us vs ws t us′ vs′ ws′ sound e =
     rw (e .sums)
     (level s js (sound .joins) us′ vs′ ws′
     (record {
-      us-are = λ k h. rw (e .writes-u) (front-at (value s (u s) js) (2 * length xs - 1) us k (pos 0) h);
-      vs-are = λ k h. rw (e .writes-v) (front-at (value s (v s) js) (2 * length xs - 1) vs k (pos 0) h);
-      ws-are = λ k h. rw (e .writes-w) (front-at (wire s js) (2 * length xs - 1) ws k 0 h);
+      us-are = λ k h. rw (e .writes-u) (front-tab (value s (u s) js) (2 * length xs - 1) us k (pos 0) h);
+      vs-are = λ k h. rw (e .writes-v) (front-tab (value s (v s) js) (2 * length xs - 1) vs k (pos 0) h);
+      ws-are = λ k h. rw (e .writes-w) (front-tab (wire s js) (2 * length xs - 1) ws k 0 h);
     }))
 
--- a tree is only said where the checks are passed
-after-tree : (c : Checked) (m t : ℕ) → Tree t ≡ treeAfter c m → (c ≡ Fine) × (t ≡ m)
-after-tree Fine m t q = (refl, cc)
-after-tree (Refused r) m t q = let z : _≡_ {A = ℕ} 0 1 = cc in let b : ⊥ = omega arith in absurd b
-
 -- from the contract of `embed` alone
-pub accepted-level : (xs ys : List ℤ) (delays js : List ℕ) (us vs : List ℤ) (ws : List ℕ) (t : ℕ) (us′ vs′ : List ℤ) (ws′ : List ℕ)
-    → Permitted xs ys delays js us vs ws (Tree t) us′ vs′ ws′ → Level (sinksAt xs ys delays) js us′ vs′ ws′ t
-unfolding answer
-accepted-level xs ys delays js us vs ws t us′ vs′ ws′ p =
-    let rooms = checkRoom (2 * length xs - 1) (length us) (length vs) (length ws) in
-    let (a, q) = after-tree (andThen (checkOrder xs ys delays js) rooms) (total (sinksAt xs ys delays) js) t (p .answers) in
-    let (b, _) = both-pass (checkOrder xs ys delays js) rooms a in
-    embeds-level xs ys delays js us vs ws t us′ vs′ ws′ (order-sound xs ys delays js b)
-    (record { sums = q; writes-u = p .writes-u; writes-v = p .writes-v; writes-w = p .writes-w })
+module _ (xs ys : List ℤ) (delays js : List ℕ) (us vs : List ℤ) (ws : List ℕ) (t : ℕ) (us′ vs′ : List ℤ) (ws′ : List ℕ)
+    (call : Permitted xs ys delays js us vs ws (answered t) us′ vs′ ws′) where
+  shown : (checkOrder xs ys delays js ≡ Fine) × (t ≡ total (sinksAt xs ys delays) js)
+  unfolding answer
+  shown =
+      let rooms = checkRoom (2 * length xs - 1) (length us) (length vs) (length ws) in
+      let (a, q) = after-answered (andThen (checkOrder xs ys delays js) rooms) (total (sinksAt xs ys delays) js) t (call .answers) in
+      let (b, _) = both-pass (checkOrder xs ys delays js) rooms a in
+      (b, q)
+
+  pub accepted-level : Level (sinksAt xs ys delays) js us′ vs′ ws′ t
+  accepted-level =
+      embeds-level xs ys delays js us vs ws t us′ vs′ ws′ (order-sound xs ys delays js (shown .0))
+      (record { sums = shown .1; writes-u = call .writes-u; writes-v = call .writes-v; writes-w = call .writes-w })
+
+  -- "Totals .. stay below 3,072,000,000."
+  pub accepted-bounded : t < 3072000000
+  accepted-bounded =
+      let (r, o) = order-ranged xs ys delays js (shown .0) in
+      rw (shown .1) (total-bounded r o)
+
+  -- "A total never passes 2,048,000,000", where no sink has a delay
+  pub accepted-prompt : delays ≡ prompt xs → t ≤ 2048000000
+  accepted-prompt e =
+      let (r, o) = order-ranged xs ys delays js (shown .0) in
+      rw (shown .1) (no-delay-bounded e r o)

@@ -11,8 +11,8 @@ use Rattle.zero_skew.specs.Plane.{Place, Sinks, quarters}
 use Rattle.zero_skew.specs.Tree.{Tree, leaf, join, wire, arrivals, ZeroSkew}
 use Rattle.zero_skew.specs.Order.{order, Alike}
 use Rattle.zero_skew.specs.DeferredMerge.{DME}
-use Rattle.embedding.specs.Joins.{left, right}
-use Rattle.embedding.specs.Nodes.{node, d}
+use Rattle.orders.specs.Joins.{left, right}
+use Rattle.orders.specs.Nodes.{node, d}
 
 -- "Plane position in quarters of a grid unit"
 abbrev pub placeIn : List ℤ → List ℤ → ℕ → Place

@@ -4,13 +4,13 @@ use mathlib.Core.List.{List}
 use Prim.Native.Nat.{ℕ, _-_, _*_, _≤_, _<_}
 use lib.IntN.{ℤ, pos}
 use lib.ListN.{length, getD, set}
-use Rattle.plane.specs.Boxes.{sinkBox, diamOf, Fair}
+use Rattle.measures.specs.Boxes.{sinkBox, diamOf, Fair}
 use Rattle.plane.specs.Sinks.{Placed}
-use Rattle.plane.specs.Measures.{lowered, raised}
-use Rattle.plane.specs.Spots.{rootOf, nearestOf}
-use Rattle.plane.specs.declared.segment.Spot.{Spot}
-use Rattle.embedding.specs.Table.{boxAt, Boxed}
-use Rattle.embedding.specs.Arrays.{Fairs, Diameters, Rising, NodeRoom}
+use Rattle.measures.specs.Measures.{lowered, raised}
+use Rattle.measures.specs.Spots.{rootOf, nearestOf}
+use Rattle.measures.specs.declared.segment.Spot.{Spot}
+use Rattle.orders.specs.Table.{boxAt, Boxed}
+use Rattle.orders.specs.Arrays.{Fairs, Diameters, Rising, NodeRoom}
 
 -- what the places are found from, parents first
 pub record Sized (n : ℕ) (bs ds ps : List ℕ) : Type 0 where

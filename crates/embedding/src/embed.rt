@@ -2,13 +2,15 @@
 ghost use Prim.Native.Nat.{_≤_};
 ghost use lib.ListN.{length};
 ghost use Rattle.plane.specs.Sinks.{prompt};
-ghost use Rattle.embedding.specs.Sound.{Ready, Embeds};
-ghost use Rattle.embedding.specs.Arrays.{NodeRoom};
+ghost use Rattle.embedding.specs.Ready.{Ready, Embeds};
+ghost use Rattle.orders.specs.Arrays.{NodeRoom};
+ghost use Rattle.embedding.specs.Embedding.{toldTree};
 ghost use Rattle.embedding.specs.Permitted.{Permitted};
-use crate::check;
-use crate::nodes;
 use crate::places;
+use crate::room;
 use crate::wires;
+use orders::check;
+use orders::nodes;
 use plane::refusal::Checked;
 use plane::refusal::Refusal;
 
@@ -110,13 +112,13 @@ pub fn embed(
     vs: &mut [i32],
     ws: &mut [u32],
 ) -> Embedded
-    ensures { λ r. ⌜ Permitted (now (xs .entry)) (now (ys .entry)) (now (delays .entry)) (now (js .entry)) (now (us .entry)) (now (vs .entry)) (now (ws .entry)) r (now (us .exit)) (now (vs .exit)) (now (ws .exit)) ⌝ }
+    ensures { λ r. ⌜ Permitted (now (xs .entry)) (now (ys .entry)) (now (delays .entry)) (now (js .entry)) (now (us .entry)) (now (vs .entry)) (now (ws .entry)) (toldTree r) (now (us .exit)) (now (vs .exit)) (now (ws .exit)) ⌝ }
 {
     let said = check::check_order(xs, ys, delays, js);
     if let Checked::Refused(r) = said {
         return Embedded::NoTree(r);
     }
-    let rooms = check::check_room(2 * xs.len() - 1, us.len(), vs.len(), ws.len());
+    let rooms = room::check_room(2 * xs.len() - 1, us.len(), vs.len(), ws.len());
     if let Checked::Refused(r) = rooms {
         return Embedded::NoTree(r);
     }

@@ -1,8 +1,5 @@
-// Embedding a joining order: the check of the pairs; boxes bottom-up, places top-down, wires and the total.
-pub mod check;
+// Embedding a joining order: places top-down, wires, and the call.
 pub mod embed;
-pub mod joins;
-pub mod nodes;
 mod places;
-pub mod table;
+pub mod room;
 mod wires;

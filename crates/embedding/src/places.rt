@@ -3,14 +3,14 @@ ghost use mathlib.Core.Path.{_≡_};
 ghost use Prim.Native.Nat.{_-_, _*_, _≤_};
 ghost use lib.ListN.{length};
 ghost use Rattle.embedding.specs.Places.{Sized, AllPlaced, Low, spotAt, SpotHeld, Has, Placeable, PutsSpot, PutsDown, PutsSinks};
-ghost use Rattle.plane.specs.Spots.{rootOf, nearestOf};
-ghost use Rattle.embedding.specs.Table.{boxAt};
-use crate::joins;
-use crate::table;
+ghost use Rattle.measures.specs.Spots.{rootOf, nearestOf};
+ghost use Rattle.orders.specs.Table.{boxAt};
+use measures::measure;
+use measures::segment;
+use measures::segment::Spot;
+use orders::joins;
+use orders::table;
 use plane::bounds;
-use plane::measure;
-use plane::segment;
-use plane::segment::Spot;
 
 // The place that the buffers hold for node k.
 fn spot_at(us: &[i32], vs: &[i32], k: usize) -> Spot

@@ -3,8 +3,8 @@ ghost use mathlib.Core.Path.{_≡_};
 ghost use Prim.Native.Nat.{_-_, _*_, _≤_};
 ghost use lib.ListN.{length};
 ghost use Rattle.lists.specs.Grow.{tab, front};
-ghost use Rattle.embedding.specs.Arrays.{Climbs, wireIn};
-use crate::joins;
+ghost use Rattle.orders.specs.Arrays.{Climbs, wireIn};
+use orders::joins;
 
 pub fn write_wires(ds: &[u32], ps: &[u16], n: usize, ws: &mut [u32])
     requires { ⌜ Climbs n (now ds) (now ps) × (2 * n - 1 ≤ length (now ws)) ⌝ }

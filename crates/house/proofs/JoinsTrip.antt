@@ -9,17 +9,17 @@ use lib.IntN.{ℤ}
 use lib.ListN.{length, getD}
 use Rattle.plane.specs.Sinks.{prompt}
 use Rattle.plane.specs.declared.refusal.Checked.the-variants.{Fine}
-use Rattle.embedding.specs.Joins.{left, right}
-use Rattle.embedding.specs.Sound.{Ordered, Sound}
-use Rattle.embedding.proofs.Accepted.{in-pair}
-use Rattle.house.specs.Bytes.{Bytes}
-use Rattle.house.specs.Fields.{fields, version, places, numbers, firsts, seconds, numbersIn}
+use Rattle.orders.specs.Joins.{left, right}
+use Rattle.orders.specs.Sound.{Ordered, Sound}
+use Rattle.orders.proofs.Accepted.{in-pair}
+use Rattle.fields.specs.Bytes.{Bytes}
+use Rattle.fields.specs.Fields.{fields, version, places, numbers, firsts, seconds, numbersIn}
 use Rattle.house.specs.Files.{joinedFile}
-use Rattle.house.specs.Form.{lengthAt, nextAt, valueAt, valueOf, past, form}
+use Rattle.fields.specs.Form.{lengthAt, nextAt, valueAt, valueOf, past, form}
 use Rattle.house.specs.Reading.{xsIn, ysIn, joinsIn}
-use Rattle.house.proofs.Values.{length-numbers, firsts-back, seconds-back, numbers-back, numbers-made}
-use Rattle.house.proofs.Standing.{Stands, Whole, more, whole}
-use Rattle.house.proofs.Fieldwise.{Fair, none, also, written-form, made, part-bytes, value-long}
+use Rattle.fields.proofs.Values.{length-numbers, firsts-back, seconds-back, numbers-back, numbers-made}
+use Rattle.fields.proofs.Standing.{Stands, Whole, more, whole}
+use Rattle.fields.proofs.Fieldwise.{Fair, none, also, written-form, made, part-bytes, value-long}
 use Rattle.house.proofs.RoundTrip.{wide-x, wide-y, fair-version, fair-sinks, version-back, sinks-value}
 
 -- a node number fits 2 bytes

@@ -12,20 +12,20 @@ use lib.Seq.{drop-cons}
 use mir.Syntax.{w32}
 use mir.Val.{SFits}
 use Rattle.lists.proofs.Tests.{or-lt}
-use Rattle.plane.specs.Range.{Central}
+use Rattle.measures.specs.Range.{Central}
 use Rattle.plane.specs.Sinks.{prompt, checkSinks, Fitting}
 use Rattle.plane.specs.declared.refusal.Checked.the-variants.{Fine}
 use Rattle.plane.proofs.Checks.{accepted, fitting}
-use Rattle.plane.proofs.Numbers.{lift-range}
-use Rattle.house.specs.Bytes.{Bytes}
-use Rattle.house.specs.Fields.{fields, version, places, firsts, seconds}
+use Rattle.measures.proofs.Numbers.{lift-range}
+use Rattle.fields.specs.Bytes.{Bytes}
+use Rattle.fields.specs.Fields.{fields, version, places, firsts, seconds}
 use Rattle.house.specs.Files.{sinkFile}
-use Rattle.house.specs.Form.{lengthAt, nextAt, valueAt, valueOf, past, form}
+use Rattle.fields.specs.Form.{lengthAt, nextAt, valueAt, valueOf, past, form}
 use Rattle.house.specs.Reading.{xsIn, ysIn}
-use Rattle.house.proofs.Values.{Wide, length-places, firsts-back, seconds-back, places-back}
-use Rattle.house.proofs.Scan.{one-byte}
-use Rattle.house.proofs.Standing.{Stands, Whole, more, whole}
-use Rattle.house.proofs.Fieldwise.{Fair, none, also, written-form, made, part-bytes, value-long}
+use Rattle.fields.proofs.Values.{Wide, length-places, firsts-back, seconds-back, places-back}
+use Rattle.fields.proofs.Scan.{one-byte}
+use Rattle.fields.proofs.Standing.{Stands, Whole, more, whole}
+use Rattle.fields.proofs.Fieldwise.{Fair, none, also, written-form, made, part-bytes, value-long}
 
 -- ---- written values are fair
 fits-near : (x : ℤ) → Central x → SFits w32 x

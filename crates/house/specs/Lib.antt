@@ -1,8 +1,4 @@
--- Document 01, "House files" and numbers 8 and 9.
-pub mod Bytes
-pub mod Fields
-pub mod Form
+-- Document 01, "House files": sink files and joined files, written and read.
 pub mod Files
 pub mod Writing
 pub mod Reading
-pub mod Code

@@ -4,27 +4,26 @@ ghost use Prim.Native.Nat.{_+_, _-_, _*_, _≤_, _<_};
 ghost use lib.ListN.{length};
 ghost use Rattle.plane.specs.Sinks.{prompt};
 ghost use Rattle.plane.specs.declared.refusal.Checked.the-variants.{Fine};
-ghost use Rattle.embedding.specs.Joins.{checkJoins};
-ghost use Rattle.embedding.specs.Embedding.{checkOrder};
-ghost use Rattle.embedding.specs.Sound.{Sound};
-ghost use Rattle.house.specs.Fields.{firsts, seconds, numbersIn};
+ghost use Rattle.orders.specs.Joins.{checkJoins, checkOrder};
+ghost use Rattle.orders.specs.Sound.{Sound};
+ghost use Rattle.fields.specs.Fields.{firsts, seconds, numbersIn};
 ghost use Rattle.house.specs.Files.{joinedFile};
-ghost use Rattle.house.specs.Writing.{Writes};
-ghost use Rattle.house.specs.Reading.{checkJoinedFile, xsIn, ysIn, joinsIn, ReadsJoins};
-ghost use Rattle.house.specs.Form.{Formed};
-ghost use Rattle.house.specs.Code.{Put};
+ghost use Rattle.house.specs.Writing.{toldWritten, Writes};
+ghost use Rattle.house.specs.Reading.{toldRead, checkJoinedFile, xsIn, ysIn, joinsIn, ReadsJoins};
+ghost use Rattle.fields.specs.Form.{Formed};
+ghost use Rattle.fields.specs.Code.{Put};
 use crate::answer::Reading;
 use crate::answer::Written;
-use crate::field;
-use crate::record;
 use crate::sink_file;
-use embedding::check;
-use embedding::joins;
+use fields::field;
+use fields::record;
+use orders::check;
+use orders::joins;
 use plane::refusal::Checked;
 use plane::refusal::Refusal;
 
 // The file of checked sinks and joins, and the byte after it.
-pub(crate) fn put_joined(out: &mut [u8], xs: &[i32], ys: &[i32], js: &[u16]) -> usize
+pub fn put_joined(out: &mut [u8], xs: &[i32], ys: &[i32], js: &[u16]) -> usize
     requires { ⌜ Sound (now xs) (now ys) (prompt (now xs)) (now js) × (6 + 12 * length (now xs) ≤ length (now out)) ⌝ }
     ensures { λ r. ⌜ Put 0 (joinedFile (now (xs .entry)) (now (ys .entry)) (now (js .entry))) (now (out .entry)) (now (out .exit)) r ⌝ }
 {
@@ -34,7 +33,7 @@ pub(crate) fn put_joined(out: &mut [u8], xs: &[i32], ys: &[i32], js: &[u16]) -> 
 
 // Refusals 1 to 4, 6 and 7, else the joined file in the lent buffer.
 pub fn write_joined(xs: &[i32], ys: &[i32], js: &[u16], out: &mut [u8]) -> Written
-    ensures { λ r. ⌜ Writes (checkOrder (now (xs .entry)) (now (ys .entry)) (prompt (now (xs .entry))) (now (js .entry))) (joinedFile (now (xs .entry)) (now (ys .entry)) (now (js .entry))) (now (out .entry)) r (now (out .exit)) ⌝ }
+    ensures { λ r. ⌜ Writes (checkOrder (now (xs .entry)) (now (ys .entry)) (prompt (now (xs .entry))) (now (js .entry))) (joinedFile (now (xs .entry)) (now (ys .entry)) (now (js .entry))) (now (out .entry)) (toldWritten r) (now (out .exit)) ⌝ }
 {
     let said = check::check_prompt(xs, ys, js);
     if let Checked::Refused(r) = said {
@@ -61,7 +60,7 @@ fn check_pairs(v: &[u8], n: usize) -> Checked
 }
 
 // Refusals 2 to 4 and 6, of the values of tags 2 and 3.
-pub(crate) fn check_values(v2: &[u8], v3: &[u8]) -> Checked
+pub fn check_values(v2: &[u8], v3: &[u8]) -> Checked
     ensures { λ r. ⌜ r ≡ checkOrder (firsts (now (v2 .entry))) (seconds (now (v2 .entry))) (prompt (firsts (now (v2 .entry)))) (numbersIn 2 (now (v3 .entry))) ⌝ }
 {
     let said = sink_file::check_places(v2);
@@ -83,9 +82,9 @@ fn check_joined_file(file: &[u8]) -> Checked
 }
 
 // Refusal 7, else the sinks and the joins of a file that was checked.
-pub(crate) fn take_joins(file: &[u8], xs: &mut [i32], ys: &mut [i32], js: &mut [u16]) -> Reading
+pub fn take_joins(file: &[u8], xs: &mut [i32], ys: &mut [i32], js: &mut [u16]) -> Reading
     requires { ⌜ Formed 3 (now file) ⌝ }
-    ensures { λ r. ⌜ ReadsJoins Fine (xsIn (now (file .entry))) (ysIn (now (file .entry))) (joinsIn (now (file .entry))) (now (xs .entry)) (now (ys .entry)) (now (js .entry)) r (now (xs .exit)) (now (ys .exit)) (now (js .exit)) ⌝ }
+    ensures { λ r. ⌜ ReadsJoins Fine (xsIn (now (file .entry))) (ysIn (now (file .entry))) (joinsIn (now (file .entry))) (now (xs .entry)) (now (ys .entry)) (now (js .entry)) (toldRead r) (now (xs .exit)) (now (ys .exit)) (now (js .exit)) ⌝ }
 {
     let v2 = field::value(file, 2);
     let v3 = field::value(file, 3);
@@ -106,7 +105,7 @@ pub(crate) fn take_joins(file: &[u8], xs: &mut [i32], ys: &mut [i32], js: &mut [
 
 // Refusals 8, 2 to 4, 6 and 7, else the number of sinks, with their coordinates and the pairs in the lent buffers.
 pub fn read_joined(file: &[u8], xs: &mut [i32], ys: &mut [i32], js: &mut [u16]) -> Reading
-    ensures { λ r. ⌜ ReadsJoins (checkJoinedFile (now (file .entry))) (xsIn (now (file .entry))) (ysIn (now (file .entry))) (joinsIn (now (file .entry))) (now (xs .entry)) (now (ys .entry)) (now (js .entry)) r (now (xs .exit)) (now (ys .exit)) (now (js .exit)) ⌝ }
+    ensures { λ r. ⌜ ReadsJoins (checkJoinedFile (now (file .entry))) (xsIn (now (file .entry))) (ysIn (now (file .entry))) (joinsIn (now (file .entry))) (now (xs .entry)) (now (ys .entry)) (now (js .entry)) (toldRead r) (now (xs .exit)) (now (ys .exit)) (now (js .exit)) ⌝ }
 {
     let said = check_joined_file(file);
     if let Checked::Refused(r) = said {

@@ -1,8 +1,4 @@
-// The house files: sinks, joining orders and trees as bytes.
+// The house files of sinks and of joining orders.
 pub mod answer;
-mod field;
 pub mod joined_file;
-mod number;
-mod record;
 pub mod sink_file;
-pub mod tree_file;

@@ -4,16 +4,16 @@ ghost use Prim.Native.Nat.{_+_, _*_, _≤_};
 ghost use lib.ListN.{length};
 ghost use Rattle.plane.specs.Sinks.{prompt, checkSinks};
 ghost use Rattle.plane.specs.declared.refusal.Checked.the-variants.{Fine};
-ghost use Rattle.house.specs.Fields.{field, version, firsts, seconds};
+ghost use Rattle.fields.specs.Fields.{field, version, firsts, seconds};
 ghost use Rattle.house.specs.Files.{sinkFile};
-ghost use Rattle.house.specs.Writing.{Writes};
-ghost use Rattle.house.specs.Reading.{checkSinkFile, xsIn, ysIn, ReadsSinks};
-ghost use Rattle.house.specs.Form.{Formed};
-ghost use Rattle.house.specs.Code.{Put};
+ghost use Rattle.house.specs.Writing.{toldWritten, Writes};
+ghost use Rattle.house.specs.Reading.{toldRead, checkSinkFile, xsIn, ysIn, ReadsSinks};
+ghost use Rattle.fields.specs.Form.{Formed};
+ghost use Rattle.fields.specs.Code.{Put};
 use crate::answer::Reading;
 use crate::answer::Written;
-use crate::field;
-use crate::record;
+use fields::field;
+use fields::record;
 use plane::refusal::Checked;
 use plane::refusal::Refusal;
 use plane::sinks;
@@ -39,7 +39,7 @@ pub(crate) fn put_sinks(out: &mut [u8], xs: &[i32], ys: &[i32]) -> usize
 
 // Refusals 1 to 4 and 7, else the sink file in the lent buffer.
 pub fn write_sinks(xs: &[i32], ys: &[i32], out: &mut [u8]) -> Written
-    ensures { λ r. ⌜ Writes (checkSinks 512 (now (xs .entry)) (now (ys .entry)) (prompt (now (xs .entry)))) (sinkFile (now (xs .entry)) (now (ys .entry))) (now (out .entry)) r (now (out .exit)) ⌝ }
+    ensures { λ r. ⌜ Writes (checkSinks 512 (now (xs .entry)) (now (ys .entry)) (prompt (now (xs .entry)))) (sinkFile (now (xs .entry)) (now (ys .entry))) (now (out .entry)) (toldWritten r) (now (out .exit)) ⌝ }
 {
     let said = sinks::check_places(xs, ys, 512);
     if let Checked::Refused(r) = said {
@@ -79,7 +79,7 @@ fn check_sink_file(file: &[u8]) -> Checked
 // Refusal 7, else the sinks of a file that was checked.
 fn take_sinks(file: &[u8], xs: &mut [i32], ys: &mut [i32]) -> Reading
     requires { ⌜ Formed 2 (now file) ⌝ }
-    ensures { λ r. ⌜ ReadsSinks Fine (xsIn (now (file .entry))) (ysIn (now (file .entry))) (now (xs .entry)) (now (ys .entry)) r (now (xs .exit)) (now (ys .exit)) ⌝ }
+    ensures { λ r. ⌜ ReadsSinks Fine (xsIn (now (file .entry))) (ysIn (now (file .entry))) (now (xs .entry)) (now (ys .entry)) (toldRead r) (now (xs .exit)) (now (ys .exit)) ⌝ }
 {
     let v = field::value(file, 2);
     let n = v.len() / 8;
@@ -95,7 +95,7 @@ fn take_sinks(file: &[u8], xs: &mut [i32], ys: &mut [i32]) -> Reading
 
 // Refusals 8, 2 to 4 and 7, else the number of sinks, with their coordinates in the lent buffers.
 pub fn read_sinks(file: &[u8], xs: &mut [i32], ys: &mut [i32]) -> Reading
-    ensures { λ r. ⌜ ReadsSinks (checkSinkFile (now (file .entry))) (xsIn (now (file .entry))) (ysIn (now (file .entry))) (now (xs .entry)) (now (ys .entry)) r (now (xs .exit)) (now (ys .exit)) ⌝ }
+    ensures { λ r. ⌜ ReadsSinks (checkSinkFile (now (file .entry))) (xsIn (now (file .entry))) (ysIn (now (file .entry))) (now (xs .entry)) (now (ys .entry)) (toldRead r) (now (xs .exit)) (now (ys .exit)) ⌝ }
 {
     let said = check_sink_file(file);
     if let Checked::Refused(r) = said {

@@ -4,11 +4,11 @@ use mathlib.Core.List.{List, [], _∷_, _++_}
 use Prim.Native.Nat.{ℕ, _+_, _-_, _*_, _≤_, _<_}
 use native.Mathlib.Omega.{arith}
 use lib.ListN.{getD}
-use Rattle.lines.specs.Decimal.{decimal}
-use Rattle.lines.specs.Brackets.{blank, brackets}
-use Rattle.embedding.specs.Nodes.{node}
-use Rattle.embedding.specs.Sound.{Ordered}
-use Rattle.embedding.proofs.Orders.{node-sink, node-join}
+use Rattle.text.specs.Decimal.{decimal, blank}
+use Rattle.lines.specs.Brackets.{brackets}
+use Rattle.orders.specs.Nodes.{node}
+use Rattle.orders.specs.Sound.{Ordered}
+use Rattle.orders.proofs.Orders.{node-sink, node-join}
 
 -- what stands for a join whose children are written as s and t
 abbrev pub around : List ℕ → List ℕ → List ℕ

@@ -6,16 +6,15 @@ use native.Mathlib.Numerals.{add-one}
 use borrow.Author.Tests.{eq-eqb, ne-eqb}
 use lib.IntN.{ℤ, pos}
 use lib.ListN.{getD}
-use Rattle.lines.specs.Brackets.{blank}
-use Rattle.lines.specs.Decimal.{decimal, signed, minus}
+use Rattle.text.specs.Decimal.{blank, decimal, signed, minus}
 use Rattle.lines.specs.Lines.{line, refused, placeField, refusalLine, parentField, nodeLine, nodeLines}
 use Rattle.lines.specs.Parts.{fromParent, placeEnd}
 use Rattle.plane.specs.Refusals.{number, place}
 use Rattle.plane.specs.declared.refusal.Refusal.{Refusal}
 use Rattle.plane.specs.declared.refusal.Place.{Place}
 use Rattle.plane.specs.declared.refusal.Place.the-variants.{None, At}
-use Rattle.lines.specs.Written.{Written}
-use Rattle.lines.proofs.Written.{then}
+use Rattle.text.specs.Written.{Written}
+use Rattle.text.proofs.Written.{then}
 
 pub field-root : (n : ℕ) (ps : List ℕ) (k : ℕ) → k ≡ 2 * n - 2 → parentField n ps k ≡ minus ∷ []
 unfolding parentField

@@ -1,13 +1,6 @@
--- The laws of the program's text.
-pub mod Decimal
-pub mod Signed
-pub mod Written
+-- The laws of the program's lines.
+pub mod Printing
 pub mod Fields
 pub mod Children
 pub mod Same
-pub mod Fronts
-pub mod Searched
-pub mod ReadSinks
 pub mod Size
-pub mod Outcomes
-pub mod Withdrawn

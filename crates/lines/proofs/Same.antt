@@ -9,8 +9,8 @@ use lib.Dec.{eqb}
 use lib.IntN.{ℤ, pos}
 use lib.ListN.{getD}
 use Rattle.lists.proofs.Grow.{getD-tab}
-use Rattle.embedding.specs.Arrays.{Parents}
-use Rattle.embedding.specs.Nodes.{parent}
+use Rattle.orders.specs.Arrays.{Parents}
+use Rattle.orders.specs.Nodes.{parent}
 use Rattle.lines.specs.Lines.{firstLine, secondLine, parents, parentField, nodeLine, nodeLines, treeText}
 use Rattle.lines.proofs.Fields.{field-root, field-other}
 

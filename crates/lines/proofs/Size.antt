@@ -6,15 +6,16 @@ use Prim.Native.Nat.{ℕ, zero, suc, _+_, _-_, _*_, _^_, _≤_, _<_}
 use native.Mathlib.Omega.{arith}
 use lib.ListN.{length, length-append}
 use Rattle.lists.specs.Grow.{sumTo}
-use Rattle.embedding.specs.Joins.{left, right}
-use Rattle.embedding.specs.Nodes.{node}
-use Rattle.embedding.specs.Sound.{Ordered}
-use Rattle.embedding.proofs.Joined.{root-has}
-use Rattle.embedding.proofs.Orders.{node-join}
-use Rattle.lines.specs.Brackets.{blank, brackets}
+use Rattle.orders.specs.Joins.{left, right}
+use Rattle.orders.specs.Nodes.{node}
+use Rattle.orders.specs.Sound.{Ordered}
+use Rattle.orders.proofs.Joined.{root-has}
+use Rattle.orders.proofs.Orders.{node-join}
+use Rattle.text.specs.Decimal.{blank}
+use Rattle.text.proofs.Decimal.{decimal-length}
+use Rattle.lines.specs.Brackets.{brackets}
 use Rattle.lines.specs.Lines.{feed, mark, firstLine, secondLine}
 use Rattle.lines.proofs.Children.{around, sink-text}
-use Rattle.lines.proofs.Decimal.{decimal-length}
 
 -- ---- line 1
 mark-length : (p : Bool) → length (blank ∷ mark p ++ (feed ∷ [])) ≤ 8

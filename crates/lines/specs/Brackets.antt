@@ -2,10 +2,7 @@
 use mathlib.Core.List.{List, [], _∷_, _++_}
 use Prim.Native.Nat.{ℕ}
 use Rattle.zero_skew.specs.Order.{Order, one, both}
-use Rattle.lines.specs.Decimal.{decimal}
-
-abbrev pub blank : ℕ
-blank = 32
+use Rattle.text.specs.Decimal.{decimal, blank}
 
 -- "A join is written as its two children, each written the same way, in pair order; a sink is its number, without brackets.
 -- One blank parts .. children."

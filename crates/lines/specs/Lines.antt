@@ -10,9 +10,9 @@ use Rattle.plane.specs.Refusals.{number, place}
 use Rattle.plane.specs.declared.refusal.Refusal.{Refusal}
 use Rattle.plane.specs.declared.refusal.Place.{Place}
 use Rattle.plane.specs.declared.refusal.Place.the-variants.{None, At}
-use Rattle.lines.specs.Decimal.{decimal, signed, minus}
-use Rattle.lines.specs.Brackets.{blank, brackets}
-use Rattle.embedding.specs.Nodes.{node, parent}
+use Rattle.text.specs.Decimal.{decimal, signed, minus, blank}
+use Rattle.lines.specs.Brackets.{brackets}
+use Rattle.orders.specs.Nodes.{node, parent}
 
 abbrev pub feed : ℕ
 feed = 10

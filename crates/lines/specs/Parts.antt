@@ -3,12 +3,11 @@ use mathlib.Core.List.{List, [], _∷_, _++_}
 use Prim.Native.Nat.{ℕ, _-_, _*_, _≤_, _<_}
 use lib.IntN.{ℤ}
 use lib.ListN.{length, getD}
-use Rattle.embedding.specs.Sound.{Ordered}
+use Rattle.orders.specs.Sound.{Ordered}
 use Rattle.plane.specs.Sinks.{Ranged}
 use Rattle.plane.specs.declared.refusal.Place.{Place}
 use Rattle.plane.specs.declared.refusal.Place.the-variants.{None, At}
-use Rattle.lines.specs.Decimal.{decimal}
-use Rattle.lines.specs.Brackets.{blank}
+use Rattle.text.specs.Decimal.{decimal, blank}
 use Rattle.lines.specs.Lines.{feed, parentField}
 
 -- the parents of n sinks' nodes, in a list with an entry for each node

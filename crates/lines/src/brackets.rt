@@ -1,12 +1,12 @@
 // The tree in brackets.
 ghost use Prim.Native.Nat.{_-_, _*_, _<_};
-ghost use Rattle.embedding.specs.Nodes.{node};
-ghost use Rattle.embedding.specs.Sound.{Ordered};
+ghost use Rattle.orders.specs.Nodes.{node};
+ghost use Rattle.orders.specs.Sound.{Ordered};
 ghost use Rattle.lines.specs.Brackets.{brackets};
 ghost use Rattle.lines.specs.Lines.{secondLine};
-ghost use Rattle.lines.specs.Written.{Room, Written};
-use crate::write;
-use embedding::joins;
+ghost use Rattle.text.specs.Written.{Room, Written};
+use orders::joins;
+use text::write;
 
 // A join is its two children, each written the same way; they have smaller numbers. A sink is its number.
 pub fn subtree(out: &mut [u8], at: usize, js: &[u16], n: usize, k: usize) -> usize

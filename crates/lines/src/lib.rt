@@ -1,6 +1,4 @@
-// The program's text: decimal numbers, brackets, node lines, refusals.
+// The lines of a tree and of a refusal: brackets, node lines.
 pub mod brackets;
 pub mod line;
-pub mod program;
 pub mod whole;
-pub mod write;

@@ -4,15 +4,14 @@ ghost use mathlib.Core.List.{[], _∷_, _++_};
 ghost use Prim.Native.Nat.{_+_, _-_, _*_, _^_, _≤_, _<_};
 ghost use lib.IntN.{pos};
 ghost use lib.ListN.{length, getD};
-ghost use Rattle.lines.specs.Brackets.{blank};
-ghost use Rattle.lines.specs.Decimal.{signed};
+ghost use Rattle.text.specs.Decimal.{blank, signed};
 ghost use Rattle.lines.specs.Lines.{feed, mark, firstLine, nodeLine, nodeLines, refusalLine, tooLong};
 ghost use Rattle.lines.specs.Parts.{ParentsUp, Tall, fromParent, placeEnd};
-ghost use Rattle.lines.specs.Written.{Room, Written};
-use crate::write;
+ghost use Rattle.text.specs.Written.{Room, Written};
 use plane::refusal;
 use plane::refusal::Place;
 use plane::refusal::Refusal;
+use text::write;
 
 fn wide(x: u32) -> usize
     ensures { λ r. ⌜ (r ≡ x) × (r < 2 ^ 32) ⌝ }

@@ -1,15 +1,15 @@
 // All lines of a tree.
 ghost use Prim.Native.Nat.{_≤_};
 ghost use lib.ListN.{length};
-ghost use Rattle.embedding.specs.Arrays.{Parents};
-ghost use Rattle.embedding.specs.Sound.{Ordered};
+ghost use Rattle.orders.specs.Arrays.{Parents};
+ghost use Rattle.orders.specs.Sound.{Ordered};
 ghost use Rattle.lines.specs.Lines.{treeText};
 ghost use Rattle.lines.specs.Parts.{Tall, Grown};
 ghost use Rattle.lines.specs.Printed.{Printed};
-ghost use Rattle.lines.specs.Written.{Written};
+ghost use Rattle.text.specs.Written.{Written};
 use crate::brackets;
 use crate::line;
-use embedding::nodes;
+use orders::nodes;
 
 // The lines of a tree with the pairs js, the parents ps, the places us and vs and the wires ws.
 fn lines_of(

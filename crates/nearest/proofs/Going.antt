@@ -13,26 +13,27 @@ use lib.Seq.{take-suc-set, take-at, drop-set-lt, drop-drop, getD-at, length-take
 use Rattle.lists.specs.Grow.{front, upTo}
 use Rattle.lists.proofs.Grow.{getD-tab, length-upTo, upTo-more}
 use Rattle.zero_skew.specs.Plane.{Sinks}
-use Rattle.plane.specs.declared.boxes.Box.{Box}
-use Rattle.plane.specs.Boxes.{hullOf, InOrder}
-use Rattle.plane.specs.Covers.{Covers}
+use Rattle.measures.specs.declared.boxes.Box.{Box}
+use Rattle.measures.specs.Boxes.{hullOf, InOrder}
+use Rattle.measures.specs.Covers.{Covers}
 use Rattle.plane.specs.Sinks.{sinksAt}
 use Rattle.plane.proofs.Covering.{covers-hull, covers-diam}
-use Rattle.nearest.specs.declared.pair.Pair.{Pair}
-use Rattle.nearest.specs.declared.best.Choice.{Choice}
-use Rattle.nearest.specs.Nearest.{pair, below, union, best, without, after, chosen, joins, alone, order}
-use Rattle.embedding.specs.Table.{boxAt, Puts, Sinked}
-use Rattle.nearest.specs.Boxes.{reach}
-use Rattle.nearest.specs.Live.{Packed}
-use Rattle.nearest.specs.Rows.{rowAt, Roomy, skipBoth, Right, Caching, pairAt, Picks, Closed, Entered}
+use Rattle.partners.specs.declared.pair.Pair.{Pair}
+use Rattle.partners.specs.declared.best.Choice.{Choice}
+use Rattle.partners.specs.Closest.{pair, best, without, after}
+use Rattle.nearest.specs.Nearest.{below, union, chosen, joins, alone, order}
+use Rattle.orders.specs.Table.{boxAt, Puts, Sinked}
+use Rattle.partners.specs.Boxes.{reach}
+use Rattle.partners.specs.Live.{Packed}
+use Rattle.partners.specs.Rows.{rowAt, Roomy, skipBoth, Right, Caching, pairAt, Picks, Closed, Entered}
 use Rattle.nearest.specs.Rounds.{Open, Made, Round}
-use Rattle.nearest.proofs.Members.{all-without, in-all}
-use Rattle.nearest.proofs.Pairs.{Within, best-same}
-use Rattle.nearest.proofs.Boxing.{hull-in-order, covers-in-order}
-use Rattle.nearest.proofs.Packed.{packed-begin, packed-within}
+use Rattle.partners.proofs.Members.{all-without, in-all}
+use Rattle.partners.proofs.Pairs.{Within, best-same}
+use Rattle.partners.proofs.Boxing.{hull-in-order, covers-in-order}
+use Rattle.partners.proofs.Packed.{packed-begin, packed-within}
 use Rattle.nearest.proofs.Running.{Running, more, running-begin, running-turn}
-use Rattle.nearest.proofs.Entering.{right-same, right-enter}
-use Rattle.nearest.proofs.Closing.{right-close, without-at, left-after}
+use Rattle.partners.proofs.Entering.{right-same, right-enter}
+use Rattle.partners.proofs.Closing.{right-close, without-at, left-after}
 
 -- ---- the boxes are those of the sinks below each node
 pub record Held (s : Sinks) (m : ℕ) (sets : List (List ℕ)) (bs : List ℕ) : Type 0 where

@@ -7,11 +7,14 @@ use lib.ListN.{length, length-append}
 use Rattle.lists.specs.Grow.{upTo}
 use Rattle.lists.proofs.Grow.{length-grow}
 use Rattle.zero_skew.specs.Plane.{Sinks}
-use Rattle.nearest.specs.declared.pair.Pair.{Pair}
-use Rattle.nearest.specs.Nearest.{after, below, union, chosen, alone}
-use Rattle.nearest.specs.Live.{Packed}
-use Rattle.nearest.proofs.Pairs.{Within}
-use Rattle.nearest.proofs.Packed.{packed-begin, packed-turn, packed-within}
+use Rattle.partners.specs.declared.pair.Pair.{Pair}
+use Rattle.partners.specs.Closest.{after}
+use Rattle.nearest.specs.Nearest.{below, union, chosen, alone}
+use Rattle.partners.specs.Live.{Packed}
+use Rattle.partners.specs.Rule.{Chosen}
+use Rattle.partners.proofs.Pairs.{Within}
+use Rattle.partners.proofs.Ruled.{best-chosen}
+use Rattle.partners.proofs.Packed.{packed-begin, packed-turn, packed-within}
 
 pub record Running (n i : ℕ) (sets : List (List ℕ)) (live : List ℕ) : Type 0 where
   pub size : length sets ≡ n + i
@@ -29,3 +32,7 @@ running-begin n = let e : n + 0 ≡ n = omega arith in record { size = rw e (len
 -- the pair that is chosen is one of the live nodes'
 pub running-within : (s : Sinks) {n i : ℕ} {sets : List (List ℕ)} {live : List ℕ} → Running n i sets live → i + 1 < n → Within live (chosen s sets live)
 running-within s {sets = sets} r h = packed-within (union s sets) (r .packed) h
+
+-- and the one that the rule names
+pub running-chosen : (s : Sinks) {n i : ℕ} {sets : List (List ℕ)} {live : List ℕ} → Running n i sets live → i + 1 < n → Chosen (union s sets) live (chosen s sets live)
+running-chosen s {n} {i} {sets} r h = best-chosen (union s sets) (r .packed .rising) (omega (arith, r .packed .count))

@@ -10,15 +10,16 @@ use lib.ListN.{length, getD, length-drop}
 use lib.Seq.{getD-drop}
 use Rattle.zero_skew.specs.Plane.{Sinks}
 use Rattle.plane.specs.declared.refusal.Checked.the-variants.{Fine}
-use Rattle.embedding.specs.Joins.{checkJoins, Valid}
-use Rattle.embedding.proofs.Accepted.{joins-accepted}
-use Rattle.nearest.specs.declared.pair.Pair.{Pair}
-use Rattle.nearest.specs.Nearest.{isOf, after, chosen, joins, order}
-use Rattle.nearest.specs.Rule.{In}
-use Rattle.nearest.specs.Live.{All, Each}
-use Rattle.nearest.specs.Live.All.{none, also}
-use Rattle.nearest.proofs.Members.{all-map, all-join, all-at, all-kept, in-all, all-in, each-at}
-use Rattle.nearest.specs.Live.Each.{nil, cons}
+use Rattle.orders.specs.Joins.{checkJoins, Valid}
+use Rattle.orders.proofs.Accepted.{joins-accepted}
+use Rattle.partners.specs.declared.pair.Pair.{Pair}
+use Rattle.partners.specs.Closest.{isOf, after}
+use Rattle.nearest.specs.Nearest.{chosen, joins, order}
+use Rattle.partners.specs.Rule.{In}
+use Rattle.partners.specs.Live.{All, Each}
+use Rattle.partners.specs.Live.All.{none, also}
+use Rattle.partners.proofs.Members.{all-map, all-join, all-at, all-kept, in-all, all-in, each-at}
+use Rattle.partners.specs.Live.Each.{nil, cons}
 use Rattle.nearest.proofs.Running.{Running, more, running-begin, running-turn, running-within}
 
 -- pairs, the lower number first, each below the node that it makes, from node m on

@@ -6,7 +6,7 @@ use lib.IntN.{ℤ}
 use lib.ListN.{length}
 use Rattle.lists.specs.Grow.{front}
 use Rattle.plane.specs.Sinks.{sinksAt, Ranged}
-use Rattle.embedding.specs.Embedding.{placesU, placesV, wires, total}
+use Rattle.orders.specs.Nodes.{placesU, placesV, wires, total}
 use Rattle.nearest.specs.Calls.{orderAt}
 
 -- sinks that were checked, and room for their joins

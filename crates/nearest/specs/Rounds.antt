@@ -3,13 +3,13 @@ use mathlib.Core.Path.{_≡_}
 use mathlib.Core.List.{List}
 use Prim.Native.Nat.{ℕ, _+_, _-_, _*_, _≤_, _<_}
 use lib.ListN.{length, take, set}
-use Rattle.plane.specs.Boxes.{hullOf}
-use Rattle.nearest.specs.declared.pair.Pair.{Pair}
-use Rattle.nearest.specs.Nearest.{best, after}
-use Rattle.embedding.specs.Table.{boxAt, Boxed, Puts}
-use Rattle.nearest.specs.Boxes.{Upright, reach}
-use Rattle.nearest.specs.Live.{Packed}
-use Rattle.nearest.specs.Rows.{rowAt, Roomy, Right}
+use Rattle.measures.specs.Boxes.{hullOf}
+use Rattle.partners.specs.declared.pair.Pair.{Pair}
+use Rattle.partners.specs.Closest.{best, after}
+use Rattle.orders.specs.Table.{boxAt, Boxed, Puts}
+use Rattle.partners.specs.Boxes.{Upright, reach}
+use Rattle.partners.specs.Live.{Packed}
+use Rattle.partners.specs.Rows.{rowAt, Roomy, Right}
 
 -- the lists hold what the join needs, and have room for what it makes
 pub record Open (n i : ℕ) (bs live rows js : List ℕ) : Type 0 where

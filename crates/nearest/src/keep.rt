@@ -2,15 +2,15 @@
 ghost use Prim.Native.Nat.{_-_, _*_, _≤_, _<_};
 ghost use lib.ListN.{length};
 ghost use Rattle.lists.specs.Grow.{upTo};
-ghost use Rattle.plane.specs.Boxes.{InOrder};
-ghost use Rattle.nearest.specs.Boxes.{Upright};
-ghost use Rattle.nearest.specs.Rows.{rowAt, Roomy, skipBoth, Right, Seated, Entered, Closed};
-use crate::best::Choice;
-use crate::live;
-use crate::pair::Near;
-use crate::rows;
-use embedding::table;
-use plane::boxes::Box;
+ghost use Rattle.measures.specs.Boxes.{InOrder};
+ghost use Rattle.partners.specs.Boxes.{Upright};
+ghost use Rattle.partners.specs.Rows.{rowAt, Roomy, skipBoth, Right, Seated, Entered, Closed};
+use measures::boxes::Box;
+use orders::table;
+use partners::best::Choice;
+use partners::live;
+use partners::pair::Near;
+use partners::rows;
 
 // Node m with box b comes after k rows that were held against it. The last of them had no later node, so this one is its partner, whatever it kept.
 fn seat(rows: &mut [u32], k: usize, b: Box, m: usize)

@@ -1,9 +1,4 @@
-// Joining by least diameter.
-pub mod best;
-pub mod keep;
-pub mod live;
-pub mod lowest;
+// Joining by least diameter: join by join, and the calls.
+mod keep;
 pub mod order;
-pub mod pair;
-pub mod rows;
 pub mod tree;

@@ -3,17 +3,17 @@ ghost use mathlib.Core.Path.{_≡_};
 ghost use Prim.Native.Nat.{_+_, _*_, _<_};
 ghost use lib.ListN.{length, set};
 ghost use Rattle.lists.specs.Grow.{front};
-ghost use Rattle.plane.specs.Boxes.{hullOf};
-ghost use Rattle.embedding.specs.Table.{boxAt, Boxed, Puts};
+ghost use Rattle.measures.specs.Boxes.{hullOf};
+ghost use Rattle.orders.specs.Table.{boxAt, Boxed, Puts};
 ghost use Rattle.nearest.specs.Rounds.{Open, Round};
-ghost use Rattle.nearest.specs.Calls.{orderAt, checkNearest, Joining};
+ghost use Rattle.nearest.specs.Calls.{orderAt, checkNearest, Joining, toldOrder};
 ghost use Rattle.nearest.specs.Ready.{CanJoin};
-use crate::best;
 use crate::keep;
-use crate::live;
-use crate::pair::Pair;
-use embedding::joins;
-use embedding::table;
+use orders::joins;
+use orders::table;
+use partners::best;
+use partners::live;
+use partners::pair::Pair;
 use plane::refusal::Checked;
 use plane::refusal::Refusal;
 use plane::sinks;
@@ -91,7 +91,7 @@ pub fn check_nearest(xs: &[i32], ys: &[i32], delays: &[u32], room: usize) -> Che
 
 // Refusals 1 to 4, 15 and 7, else the joining order in the lent buffer.
 pub fn join_nearest(xs: &[i32], ys: &[i32], delays: &[u32], js: &mut [u16]) -> Joined
-    ensures { λ r. ⌜ Joining (now (xs .entry)) (now (ys .entry)) (now (delays .entry)) (now (js .entry)) r (now (js .exit)) ⌝ }
+    ensures { λ r. ⌜ Joining (now (xs .entry)) (now (ys .entry)) (now (delays .entry)) (now (js .entry)) (toldOrder r) (now (js .exit)) ⌝ }
 {
     let said = check_nearest(xs, ys, delays, js.len());
     if let Checked::Refused(r) = said {

@@ -1,10 +1,11 @@
 // The tree of joining by least diameter: the joining order and its embedding.
+ghost use Rattle.embedding.specs.Embedding.{toldTree};
 ghost use Rattle.nearest.specs.Calls.{Embedding};
 ghost use Rattle.nearest.specs.Ready.{CanBuild, Trees};
 use crate::order;
-use embedding::check;
 use embedding::embed;
 use embedding::embed::Embedded;
+use embedding::room;
 use plane::refusal::Checked;
 
 // The joins, the places and the wires, and the total, where the sinks were checked and the buffers have room.
@@ -35,13 +36,13 @@ pub fn embed_nearest(
     vs: &mut [i32],
     ws: &mut [u32],
 ) -> Embedded
-    ensures { λ r. ⌜ Embedding (now (xs .entry)) (now (ys .entry)) (now (delays .entry)) (now (js .entry)) (now (us .entry)) (now (vs .entry)) (now (ws .entry)) r (now (js .exit)) (now (us .exit)) (now (vs .exit)) (now (ws .exit)) ⌝ }
+    ensures { λ r. ⌜ Embedding (now (xs .entry)) (now (ys .entry)) (now (delays .entry)) (now (js .entry)) (now (us .entry)) (now (vs .entry)) (now (ws .entry)) (toldTree r) (now (js .exit)) (now (us .exit)) (now (vs .exit)) (now (ws .exit)) ⌝ }
 {
     let said = order::check_nearest(xs, ys, delays, js.len());
     if let Checked::Refused(r) = said {
         return Embedded::NoTree(r);
     }
-    let rooms = check::check_room(2 * xs.len() - 1, us.len(), vs.len(), ws.len());
+    let rooms = room::check_room(2 * xs.len() - 1, us.len(), vs.len(), ws.len());
     if let Checked::Refused(r) = rooms {
         return Embedded::NoTree(r);
     }

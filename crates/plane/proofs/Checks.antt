@@ -14,8 +14,8 @@ use Rattle.lists.proofs.First.{any-no}
 use Rattle.lists.proofs.Any.{any-none, any-more}
 use Rattle.lists.proofs.Zeros.{zeros}
 use Rattle.lists.specs.First.{any}
-use Rattle.plane.specs.Range.{inRange, late}
-use Rattle.plane.proofs.Numbers.{nearer}
+use Rattle.measures.specs.Range.{inRange, late}
+use Rattle.measures.proofs.Numbers.{nearer}
 use Rattle.plane.specs.Refusals.{refuseIf, andThen}
 use Rattle.plane.specs.Sinks.{prompt, outside, firstOutside, tooLate, firstLate, checkPlaces, checkSinks, Ranged, Fitting, Placed}
 use Rattle.plane.specs.declared.refusal.Refusal.{Refusal}

@@ -1,7 +1,7 @@
 -- A box that covers its sinks: of one sink, and of two sets together; its diameter, and its numbers with sign.
 use mathlib.Core.Path.{_≡_}
 use mathlib.Core.List.{List, [], _∷_, _++_}
-use Prim.Native.Nat.{ℕ, _+_, _-_, _*_, _≤_, _<_}
+use Prim.Native.Nat.{ℕ, _+_, _-_, _*_, _<_}
 use native.Mathlib.Omega.{arith}
 use lib.IntN.{ℤ, pos, _+ℤ_, _-ℤ_}
 use lib.ListN.{length, getD}
@@ -11,26 +11,16 @@ use Rattle.zero_skew.specs.Plane.{Sinks, u, v}
 use Rattle.zero_skew.specs.Box.{greatest, least, high, low, boxOf, diameter}
 use Rattle.zero_skew.proofs.Whole.{add-is, minus-is}
 use Rattle.zero_skew.proofs.Hull.{high-is, low-is}
-use Rattle.plane.specs.declared.boxes.Box.{Box}
-use Rattle.plane.specs.Range.{Central, Brief}
-use Rattle.plane.specs.Measures.{Lifts, lift}
-use Rattle.plane.specs.Boxes.{sinkBox, hullOf, diamOf, Fair}
+use Rattle.measures.specs.declared.boxes.Box.{Box}
+use Rattle.measures.specs.Range.{Central, Brief}
+use Rattle.measures.specs.Measures.{Lifts, lift}
+use Rattle.measures.specs.Boxes.{sinkBox, hullOf, diamOf}
 use Rattle.plane.specs.Sinks.{sinksAt}
-use Rattle.plane.specs.Covers.{Covers}
+use Rattle.measures.specs.Covers.{Covers}
 use Rattle.plane.specs.Bounds.{bounds}
-use Rattle.plane.proofs.Numbers.{lifted, lift-range}
-use Rattle.plane.proofs.Lifted.{lifts, lift-of, lift-larger, lift-smaller, lift-plus, lift-minus, lift-apart, unlift}
-
--- ---- fair boxes
-pub fair-diam : {b : Box} → Fair b → diamOf b ≤ 28000000
-unfolding diamOf
-fair-diam {b} f = omega arith
-
-pub fair-hull : {a b : Box} → Fair a → Fair b → Fair (hullOf a b)
-fair-hull {a} {b} f g = omega arith
-
-pub fair-sink : (x y : ℤ) (w : ℕ) → Central x → Central y → Brief w → Fair (sinkBox x y w)
-fair-sink x y w a b h = let f = lift-range x a in let g = lift-range y b in omega arith
+use Rattle.measures.proofs.Numbers.{lifted, lift-range}
+use Rattle.measures.proofs.Fairness.{fair-hull, fair-sink}
+use Rattle.measures.proofs.Lifted.{lifts, lift-of, lift-larger, lift-smaller, lift-plus, lift-minus, lift-apart, unlift}
 
 -- ---- one sink
 sum-lifts : (x y : ℤ) → Central x → Central y → Lifts 64000000 (x +ℤ y) (lift x + lift y)

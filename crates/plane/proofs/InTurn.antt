@@ -12,7 +12,7 @@ use Rattle.lists.specs.Grow.{upTo}
 use Rattle.lists.proofs.Grow.{length-upTo, tab-at}
 use Rattle.zero_skew.specs.Box.{Bounds, greatest, least, boxOf, hull}
 use Rattle.zero_skew.proofs.Hull.{box-join}
-use Rattle.plane.specs.Range.{inRange}
+use Rattle.measures.specs.Range.{inRange}
 use Rattle.plane.specs.Sinks.{sinksAt, Ranged}
 use Rattle.plane.specs.Bounds.{sinkBounds, widenedBy, inTurn}
 use Rattle.plane.proofs.Checks.{in-both}

@@ -1,7 +1,7 @@
--- The plane's laws.
+-- The laws of refusals, of the sinks of a call, and of their boxes.
 pub mod Withdrawn
-pub mod Numbers
-pub mod Lifted
+pub mod Numbered
+pub mod Answered
 pub mod Covering
 pub mod Checks
 pub mod Unlifted

@@ -11,11 +11,11 @@ use Rattle.zero_skew.specs.Plane.{Sinks}
 use Rattle.zero_skew.specs.Box.{diameter, apart}
 use Rattle.zero_skew.proofs.Whole.{up, down, abs-minus}
 use Rattle.zero_skew.proofs.Lemma1.{diam-met, diam-none}
-use Rattle.plane.specs.Range.{Central, inRange}
-use Rattle.plane.specs.Measures.{lift}
+use Rattle.measures.specs.Range.{Central, inRange}
+use Rattle.measures.specs.Measures.{lift}
 use Rattle.plane.specs.Sinks.{sinksAt, Ranged, Fitting}
-use Rattle.plane.proofs.Numbers.{lifted, lift-range, nearer, lift-inner}
-use Rattle.plane.proofs.Lifted.{lifts}
+use Rattle.measures.proofs.Numbers.{lifted, lift-range, nearer, lift-inner}
+use Rattle.measures.proofs.Lifted.{lifts}
 use Rattle.plane.proofs.Checks.{in-both}
 
 -- z is from -m to m

@@ -3,12 +3,12 @@ use mathlib.Core.Path.{_≡_, ap}
 use Prim.Native.Nat.{ℕ, _+_, _-_, min, max}
 use lib.IntN.{ℤ, pos, subℕ, _+ℤ_, _-ℤ_}
 use Rattle.zero_skew.specs.Box.{Bounds, larger, smaller, hull, across}
-use Rattle.plane.specs.declared.boxes.Box.{Box}
-use Rattle.plane.specs.Range.{Central, Brief}
-use Rattle.plane.specs.Measures.{Lifts, lift}
-use Rattle.plane.specs.Boxes.{sinkBox, hullOf, diamOf}
+use Rattle.measures.specs.declared.boxes.Box.{Box}
+use Rattle.measures.specs.Range.{Central, Brief}
+use Rattle.measures.specs.Measures.{Lifts, lift}
+use Rattle.measures.specs.Boxes.{sinkBox, hullOf, diamOf}
 use Rattle.plane.specs.Bounds.{bounds, sinkBounds}
-use Rattle.plane.proofs.Lifted.{lift-larger, lift-smaller, lift-apart, unlift, lifts-back, unlift-once}
+use Rattle.measures.proofs.Lifted.{lift-larger, lift-smaller, lift-apart, unlift, lifts-back, unlift-once}
 use Rattle.plane.proofs.Covering.{least-u-lifts, most-u-lifts, least-v-lifts, most-v-lifts}
 
 module _ (c : ℕ) where

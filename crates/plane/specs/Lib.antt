@@ -1,9 +1,5 @@
--- The plane's definitions. For a reader: Range, Refusals, Sinks, Bounds. For the code alone: Measures, Boxes, Spots, Covers.
-pub mod Range
+-- The sinks of a call. For a reader: Refusals, Said, Sinks, Bounds.
 pub mod Refusals
+pub mod Said
 pub mod Sinks
 pub mod Bounds
-pub mod Measures
-pub mod Boxes
-pub mod Spots
-pub mod Covers

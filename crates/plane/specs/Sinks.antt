@@ -8,9 +8,9 @@ use lib.IntN.{ℤ, pos}
 use lib.ListN.{length, getD, replicate}
 use Rattle.lists.specs.First.{first}
 use Rattle.zero_skew.specs.Plane.{Sinks}
-use Rattle.plane.specs.Range.{inRange, late, Central, Brief}
-use Rattle.plane.specs.Refusals.{refuseIf, andThen}
-use Rattle.plane.specs.declared.refusal.Refusal.the-variants.{Lists, NoSink, TooMany, Outside, Late}
+use Rattle.measures.specs.Range.{inRange, late, Central, Brief}
+use Rattle.plane.specs.Refusals.{refusal, refuseIf, andThen}
+use Rattle.plane.specs.declared.refusal.Place.the-variants.{None, At}
 use Rattle.plane.specs.declared.refusal.Checked.{Checked}
 use Rattle.plane.specs.declared.refusal.Checked.the-variants.{Fine}
 
@@ -40,18 +40,18 @@ firstLate delays = first (tooLate delays) 0 (length delays)
 -- the first of refusals 1 to 4 whose condition holds, of sinks without a list of delays, where at most `limit` sinks are taken. Sinks may share a place: "a sink is a pin, and a place may hold several" (document 02, Q-1).
 unfoldable pub checkPlaces : ℕ → List ℤ → List ℤ → Checked
 checkPlaces limit xs ys =
-    refuseIf (not (eqb (length xs) (length ys))) Lists
-    (refuseIf (eqb (length xs) 0) NoSink
-    (refuseIf (ltb limit (length xs)) TooMany
-    (refuseIf (ltb (firstOutside xs ys) (length xs)) (Outside (firstOutside xs ys))
+    refuseIf (not (eqb (length xs) (length ys))) (refusal 1 None)
+    (refuseIf (eqb (length xs) 0) (refusal 2 None)
+    (refuseIf (ltb limit (length xs)) (refusal 3 None)
+    (refuseIf (ltb (firstOutside xs ys) (length xs)) (refusal 4 (At (firstOutside xs ys)))
     Fine)))
 
 -- with a list of delays: "1 covers the list of delays too", and 15 is "checked after 4"
 unfoldable pub checkSinks : ℕ → List ℤ → List ℤ → List ℕ → Checked
 checkSinks limit xs ys delays =
-    refuseIf (not (eqb (length xs) (length delays))) Lists
+    refuseIf (not (eqb (length xs) (length delays))) (refusal 1 None)
     (andThen (checkPlaces limit xs ys)
-    (refuseIf (ltb (firstLate delays) (length delays)) (Late (firstLate delays))
+    (refuseIf (ltb (firstLate delays) (length delays)) (refusal 15 (At (firstLate delays)))
     Fine))
 
 -- for the code alone: what an accepted check leaves

@@ -7,15 +7,16 @@ ghost use lib.ListN.{length, getD};
 ghost use Rattle.lists.specs.Grow.{upTo};
 ghost use Rattle.zero_skew.specs.Box.{across};
 ghost use Rattle.plane.specs.Sinks.{sinksAt, Fitting, Placed};
-ghost use Rattle.plane.specs.Boxes.{sinkBox};
-ghost use Rattle.plane.specs.Covers.{Covers};
+ghost use Rattle.measures.specs.Boxes.{sinkBox};
+ghost use Rattle.measures.specs.Covers.{Covers};
+ghost use Rattle.plane.specs.Said.{toldCheck};
 ghost use Rattle.plane.specs.Bounds.{bounds, boundsIn, boxAnswer, seen, widenedBy, verdict, Widens};
-use crate::boxes;
-use crate::boxes::Box;
-use crate::measure;
 use crate::refusal::Checked;
 use crate::refusal::Refusal;
 use crate::sinks;
+use measures::boxes;
+use measures::boxes::Box;
+use measures::measure;
 
 // What the box of all sinks comes to.
 pub enum Boxed {
@@ -124,7 +125,7 @@ pub fn enlarged(b: Box, x: i32, y: i32, w: u32) -> Box
 
 // A held box, widened by one more sink. Where the sink is refused, with 4 or 15, place 0, the box stays.
 pub fn widened(b: Box, x: i32, y: i32, w: u32) -> Widening
-    ensures { λ r. ⌜ Widens (bounds b) x y w (bounds (r .held)) (r .said) ⌝ }
+    ensures { λ r. ⌜ Widens (bounds b) x y w (bounds (r .held)) (toldCheck (r .said)) ⌝ }
 {
     Widening {
         held: enlarged(b, x, y, w),

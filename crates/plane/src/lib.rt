@@ -1,8 +1,5 @@
-// Sinks on the plane: the three measures, boxes and segments, the check of sinks.
+// The sinks of a call: refusals, the check of sinks, the box of all sinks, and a held box that is widened.
 pub mod bounds;
-pub mod boxes;
 pub mod held;
-pub mod measure;
 pub mod refusal;
-pub mod segment;
 pub mod sinks;

@@ -4,11 +4,11 @@ ghost use mathlib.Core.Bool.{_&&_};
 ghost use Prim.Native.Nat.{_<_};
 ghost use lib.ListN.{length};
 ghost use Rattle.lists.specs.First.{any};
-ghost use Rattle.plane.specs.Range.{inRange};
+ghost use Rattle.measures.specs.Range.{inRange};
 ghost use Rattle.plane.specs.Sinks.{outside, firstOutside, tooLate, firstLate, checkPlaces, checkSinks};
-use crate::measure;
 use crate::refusal::Checked;
 use crate::refusal::Refusal;
+use measures::measure;
 
 // Whether a sink may stand at x and y.
 pub fn inside(x: i32, y: i32) -> bool

@@ -1,16 +1,16 @@
 -- What the search finds, from what its parts promise.
-use mathlib.Core.Path.{_≡_, refl, sym, ap, ap₂, _∙_}
+use mathlib.Core.Path.{_≡_, refl, sym, ap, _∙_}
 use mathlib.Core.Bool.{Bool, true, false, cond}
 use mathlib.Core.List.{List}
 use Prim.Native.Nat.{ℕ, _-_, _*_, _^_, _≤_, _<_, min}
 use native.Mathlib.Omega.{arith}
 use lib.Dec.{leb, ltb}
 use lib.IntN.{ℤ}
-use lib.ListN.{length, take, drop}
-use lib.Seq.{take-at}
+use lib.ListN.{length, take}
 use lib.Pow.{pow-mono}
 use lib.Count.{ones-ones}
 use borrow.Author.Tests.{le-leb, lt-leb, leb-true, ltb-false}
+use Rattle.lists.proofs.Front.{front-part, front-lent}
 use Rattle.lists.specs.Grow.{front}
 use Rattle.zero_skew.specs.Plane.{Sinks}
 use Rattle.zero_skew.specs.Order.{Order, Over}
@@ -19,28 +19,28 @@ use Rattle.plane.specs.declared.refusal.Refusal.the-variants.{Room}
 use Rattle.plane.specs.declared.refusal.Checked.the-variants.{Fine}
 use Rattle.plane.proofs.Checks.{passed, both-pass, accepted}
 use Rattle.search.specs.declared.search.Found.{Found}
-use Rattle.embedding.specs.Joins.{Valid}
-use Rattle.embedding.specs.Sound.{Ordered}
-use Rattle.embedding.specs.Embedding.{total}
-use Rattle.embedding.proofs.Accepted.{has-room}
+use Rattle.orders.specs.Joins.{Valid}
+use Rattle.orders.specs.Sound.{Ordered}
+use Rattle.orders.specs.Nodes.{total}
+use Rattle.embedding.proofs.Rooms.{has-room}
 use Rattle.nearest.specs.Nearest.{order}
 use Rattle.nearest.proofs.Validity.{order-valid}
-use Rattle.search.specs.Best.{stepCount}
-use Rattle.search.specs.Kept.{joinCount, keptOrder, pairsOf}
+use Rattle.subsets.specs.Best.{stepCount}
+use Rattle.subsets.specs.Kept.{joinCount, keptOrder, pairsOf}
 use Rattle.search.specs.Prepared.{Provided, Tabled}
 use Rattle.search.specs.Rooms.{checkRooms, checkSearch}
 use Rattle.search.specs.Searching.{found, joinsFound, keptJoins, tableOf}
-use Rattle.search.specs.Square.{Square, Widths, held, widest}
-use Rattle.search.specs.Subsets.{diam}
-use Rattle.search.specs.Table.{steps, tableAfter}
-use Rattle.search.proofs.Agree.{kept-agree, table-agree}
-use Rattle.search.proofs.Distances.{widest-all}
-use Rattle.search.proofs.Filling.{after-length}
-use Rattle.search.proofs.Finished.{finished}
-use Rattle.search.proofs.KeptJoins.{pairs-valid}
-use Rattle.search.proofs.NoneShorter.{kept-over}
-use Rattle.search.proofs.Numbering.{order-count}
-use Rattle.search.proofs.Small.{diam-small}
+use Rattle.subsets.specs.Square.{Square, Widths, held, widest}
+use Rattle.subsets.specs.Subsets.{diam}
+use Rattle.subsets.specs.Table.{steps, tableAfter}
+use Rattle.subsets.proofs.Agree.{kept-agree, table-agree}
+use Rattle.subsets.proofs.Distances.{widest-all}
+use Rattle.subsets.proofs.Filling.{after-length}
+use Rattle.subsets.proofs.Finished.{finished}
+use Rattle.subsets.proofs.KeptJoins.{pairs-valid}
+use Rattle.subsets.proofs.NoneShorter.{kept-over}
+use Rattle.subsets.proofs.Numbering.{order-count}
+use Rattle.subsets.proofs.Small.{diam-small}
 
 -- ---- what an accepted check leaves
 pub provided : (xs ys : List ℤ) (delays table js : List ℕ) (us vs : List ℤ) (ws : List ℕ)
@@ -101,8 +101,7 @@ module _ (xs ys : List ℤ) (delays : List ℕ) (budget : ℕ) where
   -- the first 2^n entries of the table after the steps
   pub filled-part : (δ : ℕ → ℕ) (table table2 : List ℕ) → table2 ≡ front (tableAfter δ (length xs) budget) table → take (2 ^ length xs) table2 ≡ tableAfter δ (length xs) budget
   filled-part δ table table2 e =
-      ap (take (2 ^ length xs)) e
-      ∙ take-at (tableAfter δ (length xs) budget) (drop (length (tableAfter δ (length xs) budget)) table) (2 ^ length xs) (after-length δ (length xs) budget)
+      front-part (tableAfter δ (length xs) budget) table (2 ^ length xs) e (after-length δ (length xs) budget)
 
   module _ (ranged : Ranged xs ys delays) (some : 0 < length xs) (few : length xs ≤ 12) where
     -- the kept splits of a finished table join every sink once
@@ -129,11 +128,12 @@ module _ (xs ys : List ℤ) (delays : List ℕ) (budget : ℕ) where
     pub found-ordered : Ordered (length xs) (joinsFound here budget)
     found-ordered = record { some = some; few = omega arith; valid = found-valid }
 
-    -- the pairs that embedding is lent
+    -- the pairs as the buffer holds them, and as embedding is lent them
+    pub found-held : (js js2 : List ℕ) → js2 ≡ front (joinsFound here budget) js → take (2 * (length xs - 1)) js2 ≡ joinsFound here budget
+    found-held js js2 e = front-part (joinsFound here budget) js (2 * (length xs - 1)) e (found-valid .count)
+
     pub found-part : (js js2 : List ℕ) → js2 ≡ front (joinsFound here budget) js → take (2 * (length xs - 1) - 0) js2 ≡ joinsFound here budget
-    found-part js js2 e =
-        ap₂ take (let z : 2 * (length xs - 1) - 0 ≡ 2 * (length xs - 1) = omega arith in z) e
-        ∙ take-at (joinsFound here budget) (drop (length (joinsFound here budget)) js) (2 * (length xs - 1)) (found-valid .count)
+    found-part js js2 e = front-lent (joinsFound here budget) js (2 * (length xs - 1)) e (found-valid .count)
 
   -- the answer, from its parts
   pub found-is : (js : List ℕ) (t st all : ℕ) → js ≡ joinsFound here budget → t ≡ total here js → st ≡ min budget (stepCount (length xs)) → all ≡ stepCount (length xs)

@@ -17,24 +17,24 @@ use Rattle.lists.proofs.Grow.{getD-tab, length-grow}
 use Rattle.zero_skew.specs.Plane.{Sinks}
 use Rattle.zero_skew.proofs.OnePlace.{gathered-diameter}
 use Rattle.plane.specs.Sinks.{sinksAt, Ranged}
-use Rattle.embedding.specs.Embedding.{total}
-use Rattle.embedding.proofs.OnePlace.{one-place-total}
-use Rattle.search.specs.Best.{best, leastOf, stepCount}
-use Rattle.search.specs.Entries.{entryAfter}
+use Rattle.orders.specs.Nodes.{total}
+use Rattle.orders.proofs.OnePlace.{one-place-total}
+use Rattle.subsets.specs.Best.{best, leastOf, stepCount}
+use Rattle.subsets.specs.Entries.{entryAfter}
 use Rattle.search.specs.Searching.{found, joinsFound, tableOf}
-use Rattle.search.specs.Subsets.{diam, lowest, sinksIn, splits}
-use Rattle.search.proofs.Digits.{Sub, left-part, ones-rest, self-lt}
-use Rattle.search.proofs.Filling.{after-length}
+use Rattle.subsets.specs.Subsets.{diam, lowest, sinksIn, splits}
+use Rattle.subsets.proofs.Digits.{Sub, left-part, ones-rest, self-lt}
+use Rattle.subsets.proofs.Filling.{after-length}
 use Rattle.search.proofs.Finding.{found-ordered}
-use Rattle.search.proofs.Finished.{finished}
-use Rattle.search.proofs.KeptParts.{ones-pos}
-use Rattle.search.proofs.Lowest.{lowest-lt}
-use Rattle.search.proofs.Members.{in-sinks, sinks-in}
+use Rattle.subsets.proofs.Finished.{finished}
+use Rattle.subsets.proofs.KeptParts.{ones-pos}
+use Rattle.subsets.proofs.Lowest.{lowest-lt}
+use Rattle.subsets.proofs.Members.{in-sinks, sinks-in}
 use Rattle.search.proofs.Promises.{table-is}
-use Rattle.search.proofs.Recursion.{best-single, best-split, holds-best}
-use Rattle.search.proofs.Scan.{Parts, parts-splits}
-use Rattle.search.proofs.Small.{diam-small}
-use Rattle.search.proofs.Splits.{splits-count}
+use Rattle.subsets.proofs.Recursion.{best-single, best-split, holds-best}
+use Rattle.subsets.proofs.Scan.{Parts, parts-splits}
+use Rattle.subsets.proofs.Small.{diam-small}
+use Rattle.subsets.proofs.Splits.{splits-count}
 
 -- ---- a subset of n sinks that is not empty has a sink: its lowest
 

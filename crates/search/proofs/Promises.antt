@@ -19,26 +19,25 @@ use Rattle.zero_skew.specs.Order.{Order, sinksOf, Over, halves}
 use Rattle.zero_skew.proofs.Lemma1.{diam-within}
 use Rattle.zero_skew.proofs.Count.{count-in, in-count}
 use Rattle.plane.specs.Sinks.{sinksAt, Ranged}
-use Rattle.embedding.specs.Nodes.{node}
-use Rattle.embedding.specs.Sound.{Ordered}
-use Rattle.embedding.specs.Embedding.{total}
-use Rattle.embedding.proofs.Joined.{halves-are, over}
-use Rattle.search.specs.Best.{best, stepCount}
-use Rattle.search.specs.Entries.{entryAfter}
-use Rattle.search.specs.Kept.{keptOrder, pairsOf}
+use Rattle.orders.specs.Nodes.{node, total}
+use Rattle.orders.specs.Sound.{Ordered}
+use Rattle.orders.proofs.Joined.{halves-are, over}
+use Rattle.subsets.specs.Best.{best, stepCount}
+use Rattle.subsets.specs.Entries.{entryAfter}
+use Rattle.subsets.specs.Kept.{keptOrder, pairsOf}
 use Rattle.search.specs.Searching.{found, joinsFound, tableOf}
-use Rattle.search.specs.Subsets.{diam}
-use Rattle.search.specs.Table.{steps}
-use Rattle.search.proofs.Bits.{bit}
-use Rattle.search.proofs.Counting.{steps-count}
-use Rattle.search.proofs.Entries.{table-entries}
+use Rattle.subsets.specs.Subsets.{diam}
+use Rattle.subsets.specs.Table.{steps}
+use Rattle.subsets.proofs.Bits.{bit}
+use Rattle.subsets.proofs.Counting.{steps-count}
+use Rattle.subsets.proofs.Entries.{table-entries}
 use Rattle.search.proofs.Finding.{all-count, all-over, found-ordered, joins-all, joins-few}
-use Rattle.search.proofs.Finished.{Finished, done-all, finished}
-use Rattle.search.proofs.KeptJoins.{pairs-total}
-use Rattle.search.proofs.Masks.{diam-listed, listed-diam, mask-bit, over-all, over-once}
-use Rattle.search.proofs.NoneShorter.{kept-sums, least-of-all, none-shorter}
-use Rattle.search.proofs.Recursion.{holds-best}
-use Rattle.search.proofs.Small.{diam-small}
+use Rattle.subsets.proofs.Finished.{Finished, done-all, finished}
+use Rattle.subsets.proofs.KeptJoins.{pairs-total}
+use Rattle.subsets.proofs.Masks.{diam-listed, listed-diam, mask-bit, over-all, over-once}
+use Rattle.subsets.proofs.NoneShorter.{kept-sums, least-of-all, none-shorter}
+use Rattle.subsets.proofs.Recursion.{holds-best}
+use Rattle.subsets.proofs.Small.{diam-small}
 
 -- ---- the steps reported are those of the definition that the table is the result of
 pub steps-taken : (s : Sinks) (b : ℕ) → found s b .steps ≡ length (take b (steps (s .n)))

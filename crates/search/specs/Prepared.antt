@@ -6,12 +6,12 @@ use lib.IntN.{ℤ}
 use lib.ListN.{length, take}
 use Rattle.lists.specs.Grow.{front}
 use Rattle.plane.specs.Sinks.{sinksAt, Ranged}
-use Rattle.embedding.specs.Embedding.{placesU, placesV, wires}
+use Rattle.orders.specs.Nodes.{placesU, placesV, wires}
 use Rattle.search.specs.declared.search.Found.{Found}
-use Rattle.search.specs.Subsets.{diam}
-use Rattle.search.specs.Best.{stepCount}
-use Rattle.search.specs.Table.{tableAfter}
-use Rattle.search.specs.Square.{held}
+use Rattle.subsets.specs.Subsets.{diam}
+use Rattle.subsets.specs.Best.{stepCount}
+use Rattle.subsets.specs.Table.{tableAfter}
+use Rattle.subsets.specs.Square.{held}
 use Rattle.search.specs.Searching.{tableOf, joinsFound, found}
 
 -- one to twelve sinks that were checked, and room for their table and their joins

@@ -1,7 +1,7 @@
 -- Document 01, "The exact search": the answer and what the lent buffers hold after the call.
 use mathlib.Core.Path.{_≡_}
 use mathlib.Core.Bool.{cond}
-use mathlib.Core.List.{List, []}
+use mathlib.Core.List.{List}
 use Prim.Native.Nat.{ℕ, _-_, _^_, min}
 use lib.Dec.{leb}
 use lib.IntN.{ℤ}
@@ -9,17 +9,17 @@ use lib.ListN.{length}
 use Rattle.lists.specs.Grow.{front}
 use Rattle.zero_skew.specs.Plane.{Sinks}
 use Rattle.plane.specs.Sinks.{sinksAt}
-use Rattle.plane.specs.declared.refusal.Checked.{Checked}
-use Rattle.plane.specs.declared.refusal.Checked.the-variants.{Fine, Refused}
-use Rattle.embedding.specs.Embedding.{placesU, placesV, wires, total}
+use Rattle.plane.specs.Said.{Said, refusedBy, after, ifAnswered}
+use Rattle.plane.specs.Said.Said.{answered}
+use Rattle.orders.specs.Nodes.{placesU, placesV, wires, total}
 use Rattle.nearest.specs.Nearest.{order}
 use Rattle.search.specs.declared.search.Found.{Found}
 use Rattle.search.specs.declared.search.Searched.{Searched}
 use Rattle.search.specs.declared.search.Searched.the-variants.{Tree, NoTree}
-use Rattle.search.specs.Subsets.{diam}
-use Rattle.search.specs.Best.{stepCount}
-use Rattle.search.specs.Table.{tableAfter}
-use Rattle.search.specs.Kept.{keptOrder, pairsOf}
+use Rattle.subsets.specs.Subsets.{diam}
+use Rattle.subsets.specs.Best.{stepCount}
+use Rattle.subsets.specs.Table.{tableAfter}
+use Rattle.subsets.specs.Kept.{keptOrder, pairsOf}
 use Rattle.search.specs.Rooms.{checkSearch}
 
 -- the work table of the sinks after `budget` steps, or all there are
@@ -38,20 +38,20 @@ joinsFound s budget = cond (leb (stepCount (s .n)) budget) (keptJoins s budget) 
 unfoldable pub found : Sinks → ℕ → Found
 found s budget = record { total = total s (joinsFound s budget); steps = min budget (stepCount (s .n)); proven = leb (stepCount (s .n)) budget }
 
-abbrev pub foundAfter : Checked → Found → Searched
-foundAfter Fine f = Tree f
-foundAfter (Refused r) f = NoTree r
+-- what the enum says: total, steps and mark, or a refusal's number and place
+abbrev pub toldSearch : Searched → Said Found
+toldSearch (Tree f) = answered f
+toldSearch (NoTree r) = refusedBy r
 
--- "A refusal changes no lent byte": what is written, from the front of a buffer
-abbrev pub ifTree : {A : Type 0} → Searched → List A → List A
-ifTree (Tree f) l = l
-ifTree (NoTree r) l = []
+-- what a call says, where the five buffers have so much room
+abbrev pub searchAnswer : List ℤ → List ℤ → List ℕ → ℕ → ℕ → ℕ → ℕ → ℕ → ℕ → Said Found
+searchAnswer xs ys delays budget rt rj ru rv rw = after (checkSearch xs ys delays rt rj ru rv rw) (found (sinksAt xs ys delays) budget)
 
 -- the inputs, the five buffers before, the answer, and the five buffers after
-pub record Searches (xs ys : List ℤ) (delays : List ℕ) (budget : ℕ) (table js : List ℕ) (us vs : List ℤ) (ws : List ℕ) (said : Searched) (table′ js′ : List ℕ) (us′ vs′ : List ℤ) (ws′ : List ℕ) : Type 0 where
-  pub answers : said ≡ foundAfter (checkSearch xs ys delays (length table) (length js) (length us) (length vs) (length ws)) (found (sinksAt xs ys delays) budget)
-  pub writes-table : table′ ≡ front (ifTree said (tableOf (sinksAt xs ys delays) budget)) table
-  pub writes-js : js′ ≡ front (ifTree said (joinsFound (sinksAt xs ys delays) budget)) js
-  pub writes-u : us′ ≡ front (ifTree said (placesU (sinksAt xs ys delays) (joinsFound (sinksAt xs ys delays) budget))) us
-  pub writes-v : vs′ ≡ front (ifTree said (placesV (sinksAt xs ys delays) (joinsFound (sinksAt xs ys delays) budget))) vs
-  pub writes-w : ws′ ≡ front (ifTree said (wires (sinksAt xs ys delays) (joinsFound (sinksAt xs ys delays) budget))) ws
+pub record Searches (xs ys : List ℤ) (delays : List ℕ) (budget : ℕ) (table js : List ℕ) (us vs : List ℤ) (ws : List ℕ) (said : Said Found) (table′ js′ : List ℕ) (us′ vs′ : List ℤ) (ws′ : List ℕ) : Type 0 where
+  pub answers : said ≡ searchAnswer xs ys delays budget (length table) (length js) (length us) (length vs) (length ws)
+  pub writes-table : table′ ≡ front (ifAnswered said (tableOf (sinksAt xs ys delays) budget)) table
+  pub writes-js : js′ ≡ front (ifAnswered said (joinsFound (sinksAt xs ys delays) budget)) js
+  pub writes-u : us′ ≡ front (ifAnswered said (placesU (sinksAt xs ys delays) (joinsFound (sinksAt xs ys delays) budget))) us
+  pub writes-v : vs′ ≡ front (ifAnswered said (placesV (sinksAt xs ys delays) (joinsFound (sinksAt xs ys delays) budget))) vs
+  pub writes-w : ws′ ≡ front (ifAnswered said (wires (sinksAt xs ys delays) (joinsFound (sinksAt xs ys delays) budget))) ws

@@ -5,12 +5,12 @@ ghost use lib.Count.{ones};
 ghost use lib.Seq.{sets};
 ghost use lib.ListN.{length, set, take};
 ghost use Rattle.lists.specs.Grow.{front};
-ghost use Rattle.search.specs.Square.{held};
-ghost use Rattle.search.specs.Kept.{keptPart, keptOrder, pairsOf, nodeOf};
-use crate::fill;
-use crate::square;
-use crate::subset;
-use plane::measure;
+ghost use Rattle.subsets.specs.Square.{held};
+ghost use Rattle.subsets.specs.Kept.{keptPart, keptOrder, pairsOf, nodeOf};
+use measures::measure;
+use splits::fill;
+use subsets::square;
+use subsets::subset;
 
 // The part with the lowest sink, in the split of s that is kept.
 fn kept(ds: &[u32], table: &[u32], s: u32) -> u32

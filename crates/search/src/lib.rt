@@ -1,9 +1,4 @@
-// The exact search: every split of every subset of at most twelve sinks, in order, with a budget.
-mod blocks;
-pub mod fill;
-pub mod kept;
-mod lanes;
-pub mod rooms;
+// The exact search with a budget: the kept tree and the call.
+mod kept;
+mod rooms;
 pub mod search;
-pub mod square;
-pub mod subset;

@@ -1,12 +1,12 @@
-// The checks of the exact search: refusals 1 to 4, then 7.
+// The checks of the exact search: refusals 1 to 4 and 15, then 7.
 ghost use mathlib.Core.Path.{_≡_};
 ghost use Prim.Native.Nat.{_<_, _≤_};
 ghost use Rattle.search.specs.Rooms.{checkRooms, checkSearch};
-use crate::subset;
-use embedding::check;
+use embedding::room;
 use plane::refusal::Checked;
 use plane::refusal::Refusal;
 use plane::sinks;
+use subsets::subset;
 
 // Refusal 7: room for the table, the pairs and all nodes of n sinks.
 fn check_rooms(n: usize, table: usize, js: usize, us: usize, vs: usize, ws: usize) -> Checked
@@ -19,10 +19,10 @@ fn check_rooms(n: usize, table: usize, js: usize, us: usize, vs: usize, ws: usiz
     if js < 2 * (n - 1) {
         return Checked::Refused(Refusal::Room);
     }
-    check::check_room(2 * n - 1, us, vs, ws)
+    room::check_room(2 * n - 1, us, vs, ws)
 }
 
-// Refusals 1 to 4, then 7.
+// Refusals 1 to 4 and 15, then 7.
 pub fn check_search(
     xs: &[i32],
     ys: &[i32],

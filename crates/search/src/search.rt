@@ -4,16 +4,16 @@ ghost use Prim.Native.Nat.{_<_, _*_, _-_};
 ghost use Rattle.lists.specs.Grow.{front};
 ghost use Rattle.plane.specs.Sinks.{sinksAt};
 ghost use Rattle.search.specs.Prepared.{Prepared, Provided, Tabled, Joins, Finds};
-ghost use Rattle.search.specs.Searching.{joinsFound, Searches};
-use crate::fill;
+ghost use Rattle.search.specs.Searching.{joinsFound, Searches, toldSearch};
 use crate::kept;
 use crate::rooms;
-use crate::square;
-use crate::subset;
 use embedding::embed;
 use nearest::order;
 use plane::refusal::Checked;
 use plane::refusal::Refusal;
+use splits::fill;
+use subsets::square;
+use subsets::subset;
 
 // A tree: its total in half grid units, how many splits were examined, and whether no zero-skew tree is shorter.
 pub struct Found {
@@ -95,7 +95,7 @@ pub fn search_sound(
     }
 }
 
-// Searches the sinks' shortest tree, examining at most `budget` splits: refusals 1 to 4 and 7, else the total, with the work table, the joins, the places and the wires in the lent
+// Searches the sinks' shortest tree, examining at most `budget` splits: refusals 1 to 4, 15 and 7, else the total, with the work table, the joins, the places and the wires in the lent
 // buffers. From F(n) splits on the tree is proven; below, it is that of joining by least diameter.
 pub fn search(
     xs: &[i32],
@@ -108,7 +108,7 @@ pub fn search(
     vs: &mut [i32],
     ws: &mut [u32],
 ) -> Searched
-    ensures { λ r. ⌜ Searches (now (xs .entry)) (now (ys .entry)) (now (delays .entry)) budget (now (table .entry)) (now (js .entry)) (now (us .entry)) (now (vs .entry)) (now (ws .entry)) r (now (table .exit)) (now (js .exit)) (now (us .exit)) (now (vs .exit)) (now (ws .exit)) ⌝ }
+    ensures { λ r. ⌜ Searches (now (xs .entry)) (now (ys .entry)) (now (delays .entry)) budget (now (table .entry)) (now (js .entry)) (now (us .entry)) (now (vs .entry)) (now (ws .entry)) (toldSearch r) (now (table .exit)) (now (js .exit)) (now (us .exit)) (now (vs .exit)) (now (ws .exit)) ⌝ }
 {
     let said = rooms::check_search(
         xs,

@@ -1,14 +1,10 @@
 // House files, written and read.
-ghost use Rattle.plane.specs.Sinks.{prompt, checkSinks};
-ghost use Rattle.embedding.specs.Embedding.{checkOrder};
-ghost use Rattle.house.specs.Files.{sinkFile, joinedFile, treeFile};
-ghost use Rattle.house.specs.Reading.{xsIn, ysIn, joinsIn, checkSinkFile, checkJoinedFile, checkTreeFile};
-ghost use Rattle.skeprafter_c.specs.Files.{Writes, ReadsSinks, ReadsJoins};
+ghost use Rattle.skeprafter_c.specs.Files.{WritesSinkFile, WritesJoinedFile, WritesTreeFile, ReadsSinkFile, ReadsJoinedFile, ReadsTreeFile};
 use crate::said;
 
 #[no_mangle]
 pub extern "C" fn skeprafter_write_sinks(x: &[i32], y: &[i32], out: &mut [u8], said: &mut [u64; 6])
-    ensures { λ _. ⌜ Writes (checkSinks 512 (now (x .entry)) (now (y .entry)) (prompt (now (x .entry)))) (sinkFile (now (x .entry)) (now (y .entry))) (now (out .entry)) (now (out .exit)) (now (said .exit)) ⌝ }
+    ensures { λ _. ⌜ WritesSinkFile (now (x .entry)) (now (y .entry)) (now (out .entry)) (now (out .exit)) (now (said .exit)) ⌝ }
 {
     *said = said::of_written(skeprafter::write_sinks(x, y, out));
 }
@@ -21,7 +17,7 @@ pub extern "C" fn skeprafter_write_joined(
     out: &mut [u8],
     said: &mut [u64; 6],
 )
-    ensures { λ _. ⌜ Writes (checkOrder (now (x .entry)) (now (y .entry)) (prompt (now (x .entry))) (now (joins .entry))) (joinedFile (now (x .entry)) (now (y .entry)) (now (joins .entry))) (now (out .entry)) (now (out .exit)) (now (said .exit)) ⌝ }
+    ensures { λ _. ⌜ WritesJoinedFile (now (x .entry)) (now (y .entry)) (now (joins .entry)) (now (out .entry)) (now (out .exit)) (now (said .exit)) ⌝ }
 {
     *said = said::of_written(skeprafter::write_joined(x, y, joins, out));
 }
@@ -34,7 +30,7 @@ pub extern "C" fn skeprafter_write_tree(
     out: &mut [u8],
     said: &mut [u64; 6],
 )
-    ensures { λ _. ⌜ Writes (checkOrder (now (x .entry)) (now (y .entry)) (prompt (now (x .entry))) (now (joins .entry))) (treeFile (now (x .entry)) (now (y .entry)) (now (joins .entry))) (now (out .entry)) (now (out .exit)) (now (said .exit)) ⌝ }
+    ensures { λ _. ⌜ WritesTreeFile (now (x .entry)) (now (y .entry)) (now (joins .entry)) (now (out .entry)) (now (out .exit)) (now (said .exit)) ⌝ }
 {
     *said = said::of_written(skeprafter::write_tree(x, y, joins, out));
 }
@@ -46,7 +42,7 @@ pub extern "C" fn skeprafter_read_sinks(
     y: &mut [i32],
     said: &mut [u64; 6],
 )
-    ensures { λ _. ⌜ ReadsSinks (checkSinkFile (now (file .entry))) (xsIn (now (file .entry))) (ysIn (now (file .entry))) (now (x .entry)) (now (y .entry)) (now (x .exit)) (now (y .exit)) (now (said .exit)) ⌝ }
+    ensures { λ _. ⌜ ReadsSinkFile (now (file .entry)) (now (x .entry)) (now (y .entry)) (now (x .exit)) (now (y .exit)) (now (said .exit)) ⌝ }
 {
     *said = said::of_read(skeprafter::read_sinks(file, x, y));
 }
@@ -59,7 +55,7 @@ pub extern "C" fn skeprafter_read_joined(
     joins: &mut [u16],
     said: &mut [u64; 6],
 )
-    ensures { λ _. ⌜ ReadsJoins (checkJoinedFile (now (file .entry))) (xsIn (now (file .entry))) (ysIn (now (file .entry))) (joinsIn (now (file .entry))) (now (x .entry)) (now (y .entry)) (now (joins .entry)) (now (x .exit)) (now (y .exit)) (now (joins .exit)) (now (said .exit)) ⌝ }
+    ensures { λ _. ⌜ ReadsJoinedFile (now (file .entry)) (now (x .entry)) (now (y .entry)) (now (joins .entry)) (now (x .exit)) (now (y .exit)) (now (joins .exit)) (now (said .exit)) ⌝ }
 {
     *said = said::of_read(skeprafter::read_joined(file, x, y, joins));
 }
@@ -72,7 +68,7 @@ pub extern "C" fn skeprafter_read_tree(
     joins: &mut [u16],
     said: &mut [u64; 6],
 )
-    ensures { λ _. ⌜ ReadsJoins (checkTreeFile (now (file .entry))) (xsIn (now (file .entry))) (ysIn (now (file .entry))) (joinsIn (now (file .entry))) (now (x .entry)) (now (y .entry)) (now (joins .entry)) (now (x .exit)) (now (y .exit)) (now (joins .exit)) (now (said .exit)) ⌝ }
+    ensures { λ _. ⌜ ReadsTreeFile (now (file .entry)) (now (x .entry)) (now (y .entry)) (now (joins .entry)) (now (x .exit)) (now (y .exit)) (now (joins .exit)) (now (said .exit)) ⌝ }
 {
     *said = said::of_read(skeprafter::read_tree(file, x, y, joins));
 }

@@ -1,6 +1,6 @@
 // The program's lines.
 ghost use Rattle.lines.specs.Printed.{Printed};
-ghost use Rattle.lines.specs.Program.{textOf};
+ghost use Rattle.printing.specs.Program.{textOf};
 
 #[no_mangle]
 pub extern "C" fn skeprafter_tree_lines(input: &[u8], out: &mut [u8; 49152]) -> usize

@@ -25,10 +25,14 @@ module _ (s : Sinks) where
   unfolding diameter
   thin-one i l = ⊎-elim (λ p. inr (omega arith)) (λ p. inl (omega arith)) (or-le (width s (u s) (i ∷ l)) (width s (v s) (i ∷ l)))
 
+  -- document 01: "One of the two ranges is a single value"
+  pub single-value : (i : ℕ) (l : List ℕ) → (from s (u s) (i ∷ l) ≡ upto s (u s) (i ∷ l)) ⊎ (from s (v s) (i ∷ l) ≡ upto s (v s) (i ∷ l))
+  single-value i l = ⊎-elim (λ w. inl (thin-at (u s) (i ∷ l) (low-high s (u s) i l) w)) (λ w. inr (thin-at (v s) (i ∷ l) (low-high s (v s) i l) w)) (thin-one i l)
+
   arc : (l : List ℕ) (i : ℕ) → List·Memᴰ i l → Arc (segment s l)
   arc (h ∷ l) i m = record {
     some = record { some-u = to-le _ _ (some-along s (u s) (h ∷ l) (wide-u s (h ∷ l))); some-v = to-le _ _ (some-along s (v s) (h ∷ l) (wide-v s (h ∷ l))) };
-    thin = ⊎-elim (λ w. inl (thin-at (u s) (h ∷ l) (low-high s (u s) h l) w)) (λ w. inr (thin-at (v s) (h ∷ l) (low-high s (v s) h l) w)) (thin-one h l);
+    thin = single-value h l;
   }
 
   pub arc-is : (t : Segments) → BottomUp s t → Arc (ms s t)

@@ -3,6 +3,7 @@
 //! the sum of the wires.
 
 use super::draw::{self, Pins};
+use super::kinds::{self, Kind, Of};
 use super::lent::{refused, Parts};
 use super::session::{self, Session};
 use super::trees::{Call, Task};
@@ -97,10 +98,21 @@ impl session::Task for Arrival {
     fn tell(reference: &Self::Outcome, proved: &Self::Outcome) -> String {
         format!("  wanted: {reference:?}\n  proved: {proved:?}\n")
     }
+
+    fn kinds(&self, outcome: &Self::Outcome) -> Vec<Kind> {
+        match outcome {
+            Ok(found) => {
+                let call = self.0.call.name();
+                let edge = kinds::sinks(Of::Arrivals, call, found.arrivals.len());
+                edge.into_iter().collect()
+            }
+            Err(_) => vec![],
+        }
+    }
 }
 
 /// The trees of all calls that embed.
-fn check_trees(session: &mut Session, random: &mut Random, pins: Pins) {
+pub fn check_trees(session: &mut Session, random: &mut Random, pins: Pins) {
     let n = pins.x.len();
     let joins = good_joins(random, n);
     let embedded = Task::new(Call::Embed, pins.clone()).with_joins(joins);

@@ -1,10 +1,12 @@
 //! Sinks, delays and joining orders for the cases, good and bad.
 
+use super::kinds::{self, Kind};
 use crate::generate::{
     damaged_joins, delays, good_joins, put_long_delays, put_together, sinks, DelayKind, JoinDamage,
     Random, SinkKind, LONG_DELAYS,
 };
 use crate::plane::{MOST_DELAY, REACH};
+use crate::proved::Answer;
 
 /// Lists of x and y, not always of the same length.
 pub type Lists = (Vec<i32>, Vec<i32>);
@@ -29,6 +31,16 @@ impl Pins {
     pub fn of_kind(random: &mut Random, lists: Lists, kind: DelayKind) -> Pins {
         let waits = delays(random, kind, &lists.0, &lists.1);
         Pins::new(lists, waits)
+    }
+
+    /// The kinds of a call that was given these and said so.
+    pub fn kinds(&self, call: &'static str, answer: Answer) -> Vec<Kind> {
+        let Pins { x, y, delays } = self;
+        let mut kinds = kinds::of_sinks(call, answer, x, y);
+        if answer.is_ok() {
+            kinds.extend(kinds::delays(call, x, y, delays));
+        }
+        kinds
     }
 
     /// The sinks with good delays, every third time or so with none at all.
@@ -81,6 +93,62 @@ pub fn bad_pins(random: &mut Random, n: usize) -> Vec<Pins> {
     all.push(unlike_delays(random, n));
     all.push(as_long_as_the_other(random, n));
     all
+}
+
+/// Lists that are refused, each for one reason that all calls share: lists of
+/// unlike length, no sink, a place outside, a delay outside.
+pub fn refused_pins(random: &mut Random, n: usize) -> Vec<Pins> {
+    let unlike = unlike(random, n);
+    let outside = sinks(random, SinkKind::OutOfRange, n);
+    let good = good(random, n);
+    vec![
+        Pins::delayed(random, unlike),
+        Pins::new((vec![], vec![]), vec![]),
+        Pins::delayed(random, outside),
+        Pins::of_kind(random, good, DelayKind::OutOfRange),
+    ]
+}
+
+/// Four or more good sinks: all on one place, two on one, on a lattice, and
+/// one in a corner of the range.
+pub fn every_spread(random: &mut Random, n: usize) -> Vec<Lists> {
+    let mut shared = sinks(random, SinkKind::Clustered, n);
+    (shared.0[n - 1], shared.1[n - 1]) = (shared.0[0], shared.1[0]);
+    let mut corner = good(random, n);
+    let at = random.below(n);
+    corner.0[at] = random.pick(&[REACH, -REACH]);
+    corner.1[at] = random.pick(&[REACH, -REACH]);
+    vec![
+        sinks(random, SinkKind::OnePlace, n),
+        shared,
+        sinks(random, SinkKind::Regular, n),
+        corner,
+    ]
+}
+
+/// Two or more good sinks without delays, with equal ones, with one that
+/// holds all others in its box just so, and with the greatest at one.
+pub fn every_sort_of_delays(random: &mut Random, n: usize) -> Vec<Pins> {
+    let equal = 1 + random.below(MOST_DELAY as usize) as u32;
+    let mut greatest = vec![0; n];
+    greatest[random.below(n)] = MOST_DELAY;
+    vec![
+        Pins::new(good(random, n), vec![0; n]),
+        Pins::new(good(random, n), vec![equal; n]),
+        swallowed(random, n),
+        Pins::new(good(random, n), greatest),
+    ]
+}
+
+/// Sinks close together, the box of one just as large as to hold all others.
+fn swallowed(random: &mut Random, n: usize) -> Pins {
+    let (x, y) = sinks(random, SinkKind::Clustered, n);
+    let mut delays: Vec<u32> = (0..n).map(|_| random.below(3) as u32).collect();
+    let at = random.below(n);
+    let needed = |sink: usize| x[sink].abs_diff(x[at]) + y[sink].abs_diff(y[at]) + delays[sink];
+    let others = (0..n).filter(|&sink| sink != at);
+    delays[at] = others.map(needed).max().unwrap_or(0);
+    Pins::new((x, y), delays)
 }
 
 /// A place and a delay outside their ranges at the same sink.

@@ -1,6 +1,7 @@
 //! Writers and readers of the house files.
 
 use super::draw;
+use super::kinds::{self, Kind as CaseKind};
 use super::lent::{told, Outcome, Parts, Room};
 use super::session::{self, Session};
 use super::Case;
@@ -24,12 +25,13 @@ pub const CASES: &[Case] = &[
     ("read bad places and wires", read_bad_tree),
     ("read odd counts", read_odd_counts),
     ("read odd fields", read_odd_fields),
+    ("read any bytes", read_any_bytes),
     ("read many", read_large),
 ];
 
 /// A call of a writer.
 #[derive(Clone, Debug)]
-struct Write {
+pub struct Write {
     kind: Kind,
     x: Vec<i32>,
     y: Vec<i32>,
@@ -39,7 +41,7 @@ struct Write {
 
 impl Write {
     /// A writer lent exactly the bytes that its file has.
-    fn new(kind: Kind, (x, y): draw::Lists, joins: Vec<u16>) -> Write {
+    pub fn new(kind: Kind, (x, y): draw::Lists, joins: Vec<u16>) -> Write {
         let n = x.len().clamp(1, 520);
         let room = Room {
             bytes: kind.file_length(n),
@@ -54,7 +56,8 @@ impl Write {
         }
     }
 
-    fn check_rooms(mut self, session: &mut Session, random: &mut Random) {
+    /// Checks the call in its own room and in every variant of it.
+    pub fn check_rooms(mut self, session: &mut Session, random: &mut Random) {
         for room in self.room.variants(random) {
             self.room = room;
             session.check(&self);
@@ -91,11 +94,20 @@ impl session::Task for Write {
     fn tell(reference: &Outcome, proved: &Outcome) -> String {
         Outcome::tell(reference, proved)
     }
+
+    fn kinds(&self, outcome: &Outcome) -> Vec<CaseKind> {
+        let call = match self.kind {
+            Kind::Sinks => "write_sinks",
+            Kind::Joined => "write_joined",
+            Kind::Tree => "write_tree",
+        };
+        kinds::of_sinks(call, outcome.answer, &self.x, &self.y)
+    }
 }
 
 /// A call of a reader.
 #[derive(Clone)]
-struct Read {
+pub struct Read {
     kind: Kind,
     file: Vec<u8>,
     room: Room,
@@ -103,7 +115,7 @@ struct Read {
 
 impl Read {
     /// A reader of a file that holds `n` sinks, lent exactly what they fill.
-    fn new(kind: Kind, file: Vec<u8>, n: usize) -> Read {
+    pub fn new(kind: Kind, file: Vec<u8>, n: usize) -> Read {
         let n = n.clamp(1, 520);
         let joins = if kind == Kind::Sinks { 0 } else { 2 * (n - 1) };
         let room = Room {
@@ -115,7 +127,8 @@ impl Read {
         Read { kind, file, room }
     }
 
-    fn check_rooms(mut self, session: &mut Session, random: &mut Random) {
+    /// Checks the call in its own room and in every variant of it.
+    pub fn check_rooms(mut self, session: &mut Session, random: &mut Random) {
         for room in self.room.variants(random) {
             self.room = room;
             session.check(&self);
@@ -153,6 +166,27 @@ impl session::Task for Read {
     fn tell(reference: &Outcome, proved: &Outcome) -> String {
         Outcome::tell(reference, proved)
     }
+
+    fn kinds(&self, outcome: &Outcome) -> Vec<CaseKind> {
+        let call = match self.kind {
+            Kind::Sinks => "read_sinks",
+            Kind::Joined => "read_joined",
+            Kind::Tree => "read_tree",
+        };
+        let (x, y) = sinks_in(&self.file);
+        kinds::of_sinks(call, outcome.answer, &x, &y)
+    }
+}
+
+/// The sinks in a file whose first two fields are of the form; of any other
+/// file whatever stands in their place.
+pub fn sinks_in(file: &[u8]) -> draw::Lists {
+    let number = |b: &[u8]| i32::from_be_bytes([b[0], b[1], b[2], b[3]]);
+    let length = |b: &[u8]| usize::from(u16::from_be_bytes([b[0], b[1]]));
+    let length = file.get(5..7).map_or(0, length);
+    let value = file.get(7..7 + length).unwrap_or(&[]);
+    let records = value.chunks_exact(8);
+    records.map(|b| (number(&b[..4]), number(&b[4..]))).unzip()
 }
 
 /// A number of bytes or sinks as an answer.
@@ -206,18 +240,31 @@ fn write_large(session: &mut Session, random: &mut Random) {
     }
 }
 
-/// A good file of `n` sinks by the reference's writers.
+/// A good file of `n` sinks.
 fn good_file(random: &mut Random, kind: Kind, n: usize) -> Vec<u8> {
     let lists = draw::good(random, n);
     let joins = good_joins(random, n);
-    let mut out = vec![0; kind.file_length(n)];
-    let written = match kind {
-        Kind::Sinks => files::write_sinks(&lists.0, &lists.1, &mut out),
-        Kind::Joined => files::write_joined(&lists.0, &lists.1, &joins, &mut out),
-        Kind::Tree => files::write_tree(&lists.0, &lists.1, &joins, &mut out),
-    };
-    assert_eq!(written, Ok(out.len()), "good sinks and joins are written");
-    out
+    let file = file_with(kind, &lists, &joins);
+    assert_eq!(file.len(), kind.file_length(n), "good sinks and joins");
+    file
+}
+
+/// A file of the form with these sinks and pairs, good or bad. The places and
+/// wires of a tree file are those of the embedding, or none where there is no
+/// embedding.
+pub fn file_with(kind: Kind, (x, y): &draw::Lists, joins: &[u16]) -> Vec<u8> {
+    let mut file = file_of(&[(1, &[1]), (2, &value_of_sinks(x, y))]);
+    if kind != Kind::Sinks {
+        file.extend(file_of(&[(3, &value_of_joins(joins))]));
+    }
+    if kind == Kind::Tree {
+        let mut tree = vec![0; kind.file_length(x.len().max(1))];
+        if files::write_tree(x, y, joins, &mut tree).is_ok() {
+            return tree;
+        }
+        file.extend(file_of(&[(4, &[]), (5, &[])]));
+    }
+    file
 }
 
 fn read_rooms(session: &mut Session, random: &mut Random) {
@@ -396,6 +443,20 @@ fn read_odd_fields(session: &mut Session, random: &mut Random) {
         }
         for kind in Kind::ALL {
             session.check(&Read::new(kind, file.clone(), 20));
+        }
+    }
+}
+
+/// Any bytes at all, after as much of a good file as chance leaves.
+fn read_any_bytes(session: &mut Session, random: &mut Random) {
+    for _ in 0..12 {
+        let (kind, n) = (random.pick(&Kind::ALL), 1 + random.below(3));
+        let mut file = good_file(random, kind, n);
+        file.truncate(random.below(file.len() + 1));
+        let more = random.below(40);
+        file.extend((0..more).map(|_| random.next_bits() as u8));
+        for read in Kind::ALL {
+            Read::new(read, file.clone(), n).check_rooms(session, random);
         }
     }
 }

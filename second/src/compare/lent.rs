@@ -228,6 +228,11 @@ impl Outcome {
         Outcome { answer, lent }
     }
 
+    /// The first bytes of the buffer of bytes.
+    pub fn bytes(&self, length: usize) -> &[u8] {
+        &self.lent.bytes.all[GUARD..GUARD + length]
+    }
+
     /// What both sides said, and where their buffers differ.
     pub fn tell(reference: &Outcome, proved: &Outcome) -> String {
         let said = tell_answers(reference.answer, proved.answer);

@@ -1,7 +1,8 @@
 //! The tree program's text: by the library's call, and by the program itself.
 
 use super::draw;
-use super::files::{file_of, hex, value_of_sinks};
+use super::files::{file_of, hex, sinks_in, value_of_sinks};
+use super::kinds::{self, Kind as CaseKind, PROGRAM};
 use super::lent::{told, Outcome, Parts, Room};
 use super::session::{Session, Task};
 use super::Case;
@@ -70,6 +71,17 @@ impl Task for Lines {
     fn tell(reference: &Outcome, proved: &Outcome) -> String {
         Outcome::tell(reference, proved)
     }
+
+    fn kinds(&self, outcome: &Outcome) -> Vec<CaseKind> {
+        let length = outcome.answer.map_or(0, |said| said.value as usize);
+        text_kinds("tree_lines", &self.input, outcome.bytes(length))
+    }
+}
+
+/// The kinds of a text for the given input.
+fn text_kinds(call: &'static str, input: &[u8], text: &[u8]) -> Vec<CaseKind> {
+    let (x, y) = sinks_in(input);
+    kinds::of_text(call, &String::from_utf8_lossy(text), &x, &y)
 }
 
 /// The proved program, run in a process of its own.
@@ -79,7 +91,8 @@ struct Program {
 }
 
 impl Program {
-    /// Standard output, or why there is none. All inputs fit a pipe, so the
+    /// Standard output, or why there is none: a refusal is an answer, and no
+    /// input makes the program fail. All inputs fit a pipe, so the
     /// writing cannot wait for a program that has not read yet.
     fn output(&self) -> Result<Vec<u8>, String> {
         let mut child = Command::new(&self.path)
@@ -93,9 +106,9 @@ impl Program {
         }
         let output = child.wait_with_output();
         let output = output.map_err(|error| format!("cannot read: {error}"))?;
-        match output.status.code() {
-            Some(_) => Ok(output.stdout),
-            None => Err(format!("ended by a signal: {}", output.status)),
+        match output.status.success() {
+            true => Ok(output.stdout),
+            false => Err(format!("ended with {}", output.status)),
         }
     }
 }
@@ -124,10 +137,15 @@ impl Task for Program {
         let (ours, theirs) = (text(reference), text(proved));
         format!("  reference {ours}  proved program {theirs}")
     }
+
+    fn kinds(&self, outcome: &Self::Outcome) -> Vec<CaseKind> {
+        let text = outcome.as_deref().unwrap_or(&[]);
+        text_kinds(PROGRAM, &self.input, text)
+    }
 }
 
 /// Checks the program, where there is one, and the call.
-fn check(session: &mut Session, input: &[u8]) {
+pub fn check(session: &mut Session, input: &[u8]) {
     session.check(&Lines::new(input));
     if let Some(path) = session.program().map(PathBuf::from) {
         let input = input.to_vec();
@@ -136,7 +154,7 @@ fn check(session: &mut Session, input: &[u8]) {
 }
 
 /// A sink file of any sinks, good or bad.
-fn sink_file(lists: &draw::Lists) -> Vec<u8> {
+pub fn sink_file(lists: &draw::Lists) -> Vec<u8> {
     file_of(&[(1, &[1]), (2, &value_of_sinks(&lists.0, &lists.1))])
 }
 

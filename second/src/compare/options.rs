@@ -1,25 +1,21 @@
-//! The words after `compare`.
+//! The words after `compare`, and the seed from the environment.
 
 use std::path::PathBuf;
 use std::str::FromStr;
-use std::time::Duration;
 
-/// When a comparison ends.
-#[derive(Clone, Copy, Debug, PartialEq, Eq)]
-pub enum Limit {
-    /// After this many checks.
-    Count(u64),
-    /// After this time.
-    Time(Duration),
-}
+/// The rounds of a run that is not told how many: about 30 seconds of an
+/// emulator on two shared cores.
+pub const ROUNDS: usize = 14;
+/// The seed of a run that is not told one.
+pub const SEED: u64 = 1;
 
 /// What a comparison is asked to do.
 #[derive(Clone, Debug, PartialEq, Eq)]
 pub struct Options {
     /// The seed of every input.
     pub seed: u64,
-    /// When to end.
-    pub limit: Limit,
+    /// How often all cases are gone through.
+    pub rounds: usize,
     /// The proved tree program, if it is compared too.
     pub program: Option<PathBuf>,
     /// Whether each input goes to standard error before it is tried, so that
@@ -28,15 +24,15 @@ pub struct Options {
 }
 
 impl Options {
-    /// The options in the given words, or what is wrong with them.
-    pub fn of_words(words: &[&str]) -> Result<Options, String> {
+    /// The options in the given words and in the value of SEED, if it is
+    /// set, or what is wrong with them.
+    pub fn of_words(words: &[&str], seed: Option<&str>) -> Result<Options, String> {
         let mut options = Options {
-            seed: 1,
-            limit: Limit::Time(Duration::from_secs(30)),
+            seed: seed.map_or(Ok(SEED), |value| number("SEED", value))?,
+            rounds: ROUNDS,
             program: None,
             trace: false,
         };
-        let mut limits = 0;
         let mut rest = words.iter();
         while let Some(&word) = rest.next() {
             if word == "--trace" {
@@ -45,18 +41,10 @@ impl Options {
             }
             let value = rest.next().ok_or(format!("{word} wants a value"))?;
             match word {
-                "--seed" => options.seed = number(word, value)?,
-                "--count" => options.limit = Limit::Count(number(word, value)?),
-                "--seconds" => {
-                    options.limit = Limit::Time(Duration::from_secs(number(word, value)?));
-                }
+                "--rounds" => options.rounds = number(word, value)?,
                 "--program" => options.program = Some(PathBuf::from(value)),
                 _ => return Err(format!("unknown word {word}")),
             }
-            limits += usize::from(word == "--count" || word == "--seconds");
-        }
-        if limits > 1 {
-            return Err("either --count or --seconds, once".to_string());
         }
         Ok(options)
     }
@@ -73,28 +61,28 @@ mod tests {
     use super::*;
 
     #[test]
-    fn no_words_mean_thirty_seconds_of_seed_one() {
-        let options = Options::of_words(&[]).unwrap();
-        assert_eq!(options.seed, 1);
-        assert_eq!(options.limit, Limit::Time(Duration::from_secs(30)));
+    fn no_words_mean_the_usual_rounds_of_the_usual_seed() {
+        let options = Options::of_words(&[], None).unwrap();
+        assert_eq!((options.seed, options.rounds), (SEED, ROUNDS));
         assert_eq!((options.program, options.trace), (None, false));
     }
 
     #[test]
     fn words_are_taken_in_any_order() {
-        let words = ["--count", "50", "--trace", "--program", "./tree"];
-        let options = Options::of_words(&words).unwrap();
-        assert_eq!(options.limit, Limit::Count(50));
+        let words = ["--rounds", "50", "--trace", "--program", "./tree"];
+        let options = Options::of_words(&words, Some("77")).unwrap();
+        assert_eq!((options.seed, options.rounds), (77, 50));
         assert_eq!(options.program, Some(PathBuf::from("./tree")));
         assert!(options.trace);
     }
 
     #[test]
     fn wrong_words_are_named() {
-        let wrong = |words: &[&str]| Options::of_words(words).unwrap_err();
-        assert_eq!(wrong(&["--seed"]), "--seed wants a value");
-        assert!(wrong(&["--seed", "x"]).starts_with("--seed wants a whole"));
+        let wrong = |words: &[&str]| Options::of_words(words, None).unwrap_err();
+        assert_eq!(wrong(&["--rounds"]), "--rounds wants a value");
+        assert!(wrong(&["--rounds", "x"]).starts_with("--rounds wants a whole"));
         assert_eq!(wrong(&["--bread", "1"]), "unknown word --bread");
-        assert!(wrong(&["--count", "1", "--seconds", "1"]).starts_with("either"));
+        let seed = Options::of_words(&[], Some("")).unwrap_err();
+        assert_eq!(seed, "SEED wants a whole number, not ");
     }
 }

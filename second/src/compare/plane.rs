@@ -1,12 +1,13 @@
 //! Boxes: worked out from sinks, widened, and read by their ends.
 
 use super::draw::{self, Pins};
-use super::lent::{refused, tell_answers, told};
+use super::kinds::{self, Kind};
+use super::lent::{tell_answers, told};
 use super::session::{Session, Task};
 use super::Case;
 use crate::generate::{Random, LONG_DELAYS};
-use crate::plane::{box_of_sinks, TiltedBox, MOST_DELAY};
-use crate::proved::{self, Answer, RawBox};
+use crate::plane::{box_of_sinks, Tilted, TiltedBox, MOST_DELAY, REACH};
+use crate::proved::{self, Answer, RawBox, CORNER};
 
 /// The cases of this family.
 pub const CASES: &[Case] = &[
@@ -20,50 +21,75 @@ pub const CASES: &[Case] = &[
     ("any box read", read_any),
 ];
 
-/// What a call leaves of a box. Raw numbers can only be compared with those
-/// before the call; a box that was made or widened is read by its ends.
+/// What is left of a box: its raw numbers, and what is read from them.
 #[derive(Clone, Copy, Debug, PartialEq, Eq)]
-enum Left {
-    /// The box after a refusal.
-    Untouched(RawBox),
-    /// The ends and the diameter after an acceptance.
-    Read([i64; 4], u64),
+pub struct Left {
+    raw: RawBox,
+    ends: [i64; 4],
+    diameter: i64,
 }
 
 type Outcome = (Answer, Left);
 
 fn tell_outcomes(reference: &Outcome, proved: &Outcome) -> String {
     let said = tell_answers(reference.0, proved.0);
-    let (ours, theirs) = (reference.1, proved.1);
-    format!("{said}  reference left: {ours:?}\n  proved left:    {theirs:?}\n")
+    said + &tell_left(&reference.1, &proved.1)
+}
+
+fn tell_left(reference: &Left, proved: &Left) -> String {
+    format!("  reference left: {reference:?}\n  proved left:    {proved:?}\n")
 }
 
 /// The ends of a reference box.
 fn ends(held: TiltedBox) -> [i64; 4] {
-    [held.least_u, held.greatest_u, held.least_v, held.greatest_v].map(|end| i64::from(end.0))
+    [held.least_u, held.greatest_u, held.least_v, held.greatest_v].map(|end| end.0)
 }
 
-/// The larger of the two absolute differences.
-fn diameter(ends: [i64; 4]) -> u64 {
-    let u = ends[0].abs_diff(ends[1]);
-    u.max(ends[2].abs_diff(ends[3]))
-}
-
-/// How the reference leaves a box.
-fn reference_left(before: RawBox, after: Result<[i64; 4], (u64, Option<u64>)>) -> Outcome {
-    match after {
-        Ok(ends) => (told(Ok(0u32)), Left::Read(ends, diameter(ends))),
-        Err(refused) => (Err(refused), Left::Untouched(before)),
+/// The box that raw numbers stand for, whatever they are.
+fn standing_for(raw: RawBox) -> TiltedBox {
+    let [least_u, greatest_u, least_v, greatest_v] =
+        raw.map(|number| Tilted(i64::from(number) - CORNER));
+    TiltedBox {
+        least_u,
+        greatest_u,
+        least_v,
+        greatest_v,
     }
 }
 
-/// How the proved library leaves a box.
-fn proved_left(answer: Answer, held: RawBox) -> Outcome {
-    let left = match answer {
-        Ok(_) => Left::Read(proved::ends(&held), u64::from(proved::diameter(&held))),
-        Err(_) => Left::Untouched(held),
-    };
-    (answer, left)
+/// The raw numbers of a box; every box here has ends that 32 bits hold.
+fn raw_of(held: TiltedBox) -> RawBox {
+    ends(held).map(|end| (end + CORNER) as u32)
+}
+
+/// What the reference leaves of a box, by its own arithmetic alone.
+fn reference_left(held: TiltedBox) -> Left {
+    Left {
+        raw: raw_of(held),
+        ends: ends(held),
+        diameter: held.diameter(),
+    }
+}
+
+/// What the proved library leaves of a box, by its own two readers.
+fn proved_left(raw: RawBox) -> Left {
+    Left {
+        raw,
+        ends: proved::ends(&raw),
+        diameter: i64::from(proved::diameter(&raw)),
+    }
+}
+
+/// Both calls that read a box have been compared with every one left.
+fn read_kinds(left: &Left) -> Vec<Kind> {
+    let readers = ["ends", "diameter"].into_iter();
+    readers
+        .flat_map(|call| {
+            let mut kinds = kinds::held_box(call, left.ends);
+            kinds.push(kinds::said(call, told(Ok(0u32))));
+            kinds
+        })
+        .collect()
 }
 
 /// Raw numbers drawn from the salt.
@@ -73,8 +99,9 @@ fn raw_box(salt: u64) -> RawBox {
 }
 
 /// The box of all sinks.
-struct BoxOf {
-    pins: Pins,
+pub struct BoxOf {
+    /// The sinks.
+    pub pins: Pins,
 }
 
 impl Task for BoxOf {
@@ -87,18 +114,26 @@ impl Task for BoxOf {
     fn reference(&self, salt: u64) -> Outcome {
         let Pins { x, y, delays } = &self.pins;
         let made = box_of_sinks(x, y, delays);
-        reference_left(raw_box(salt), made.map(ends).map_err(refused))
+        let answer = told(made.map(|_| 0u32));
+        let left = made.unwrap_or(standing_for(raw_box(salt)));
+        (answer, reference_left(left))
     }
 
     fn proved(&self, salt: u64) -> Outcome {
         let Pins { x, y, delays } = &self.pins;
         let mut held = raw_box(salt);
         let answer = proved::box_of(x, y, delays, &mut held);
-        proved_left(answer, held)
+        (answer, proved_left(held))
     }
 
     fn tell(reference: &Outcome, proved: &Outcome) -> String {
         tell_outcomes(reference, proved)
+    }
+
+    fn kinds(&self, (answer, left): &Outcome) -> Vec<Kind> {
+        let mut kinds = self.pins.kinds("box_of", *answer);
+        kinds.extend(read_kinds(left));
+        kinds
     }
 }
 
@@ -150,32 +185,28 @@ impl Task for WidenHeld {
         format!("box_of {pins:?}, then widen by each of {more:?}")
     }
 
-    fn reference(&self, _salt: u64) -> Vec<Outcome> {
+    fn reference(&self, salt: u64) -> Vec<Outcome> {
         let Pins { x, y, delays } = &self.pins;
-        let mut held = match box_of_sinks(x, y, delays) {
-            Ok(held) => held,
-            Err(refusal) => return vec![(Err(refused(refusal)), Left::Untouched([0; 4]))],
-        };
-        let widen = |&(x, y, delay): &Sink| {
+        let made = box_of_sinks(x, y, delays);
+        let mut held = made.unwrap_or(standing_for(raw_box(salt)));
+        let mut all = vec![(told(made.map(|_| 0u32)), reference_left(held))];
+        for &(x, y, delay) in &self.more {
             let answer = told(held.widen(x, y, delay).map(|()| 0u32));
-            (answer, Left::Read(ends(held), diameter(ends(held))))
-        };
-        self.more.iter().map(widen).collect()
+            all.push((answer, reference_left(held)));
+        }
+        all
     }
 
-    fn proved(&self, _salt: u64) -> Vec<Outcome> {
+    fn proved(&self, salt: u64) -> Vec<Outcome> {
         let Pins { x, y, delays } = &self.pins;
-        let mut held = [0; 4];
+        let mut held = raw_box(salt);
         let made = proved::box_of(x, y, delays, &mut held);
-        if made.is_err() {
-            return vec![(made, Left::Untouched(held))];
-        }
-        let widen = |&(x, y, delay): &Sink| {
+        let mut all = vec![(made, proved_left(held))];
+        for &(x, y, delay) in &self.more {
             let answer = proved::widen(&mut held, x, y, delay);
-            let diameter = u64::from(proved::diameter(&held));
-            (answer, Left::Read(proved::ends(&held), diameter))
-        };
-        self.more.iter().map(widen).collect()
+            all.push((answer, proved_left(held)));
+        }
+        all
     }
 
     fn tell(reference: &Vec<Outcome>, proved: &Vec<Outcome>) -> String {
@@ -185,6 +216,25 @@ impl Task for WidenHeld {
             None => "  one side ended early\n".to_string(),
         }
     }
+
+    fn kinds(&self, outcome: &Vec<Outcome>) -> Vec<Kind> {
+        let mut kinds = self.pins.kinds("box_of", outcome[0].0);
+        for pair in outcome.windows(2) {
+            kinds.extend(widen_kinds(pair[0].1.ends, &pair[1]));
+        }
+        kinds
+    }
+}
+
+/// The kinds of a widening of a box with these ends.
+fn widen_kinds(before: [i64; 4], (answer, left): &Outcome) -> Vec<Kind> {
+    let mut kinds = kinds::held_box("widen", before);
+    kinds.push(kinds::said("widen", *answer));
+    if answer.is_ok() {
+        kinds.push(kinds::widened(before != left.ends));
+    }
+    kinds.extend(read_kinds(left));
+    kinds
 }
 
 /// A sink for widening: anywhere, at an edge, just outside, far outside; and
@@ -209,10 +259,15 @@ fn any_delay(random: &mut Random) -> u32 {
     }
 }
 
+/// Sinks anywhere; then one in a corner twice, which leaves the box as it is
+/// the second time; and one outside each of the two ranges.
 fn widen_held(session: &mut Session, random: &mut Random) {
     let n = session.small();
     for pins in draw::every_good_pins(random, n) {
-        let more = (0..8).map(|_| any_sink(random)).collect();
+        let mut more: Vec<Sink> = (0..8).map(|_| any_sink(random)).collect();
+        let corner = (random.pick(&[REACH, -REACH]), REACH, any_delay(random) % 9);
+        let long = (0, 0, random.pick(&LONG_DELAYS));
+        more.extend([corner, corner, (REACH + 1, 0, 0), long]);
         session.check(&WidenHeld { pins, more });
     }
 }
@@ -238,8 +293,8 @@ fn widen_by_many(session: &mut Session, random: &mut Random) {
     session.check(&WidenHeld { pins, more });
 }
 
-/// A box of any raw numbers, widened by one sink. What the numbers mean is
-/// asked of the library; the plain least and greatest must come out.
+/// A box of any raw numbers, widened by one sink: the plain least and
+/// greatest of what the numbers stand for must come out.
 struct WidenAny {
     raw: RawBox,
     sink: Sink,
@@ -250,80 +305,117 @@ impl Task for WidenAny {
 
     fn describe(&self) -> String {
         let WidenAny { raw, sink } = self;
-        let ends = proved::ends(raw);
+        let ends = ends(standing_for(*raw));
         format!("widen raw box {raw:?} with ends {ends:?} by {sink:?}")
     }
 
     fn reference(&self, _salt: u64) -> Outcome {
-        let [a, b, c, d] = proved::ends(&self.raw);
         let (x, y, delay) = self.sink;
-        // The box of the one sink refuses as widening does: 4, then 15, both
-        // with place 0.
-        let own = box_of_sinks(&[x], &[y], &[delay]).map(ends);
-        let widened = own.map(|own| [a.min(own[0]), b.max(own[1]), c.min(own[2]), d.max(own[3])]);
-        reference_left(self.raw, widened.map_err(refused))
+        let mut held = standing_for(self.raw);
+        let answer = told(held.widen(x, y, delay).map(|()| 0u32));
+        (answer, reference_left(held))
     }
 
     fn proved(&self, _salt: u64) -> Outcome {
         let (x, y, delay) = self.sink;
         let mut held = self.raw;
         let answer = proved::widen(&mut held, x, y, delay);
-        proved_left(answer, held)
+        (answer, proved_left(held))
     }
 
     fn tell(reference: &Outcome, proved: &Outcome) -> String {
         tell_outcomes(reference, proved)
+    }
+
+    fn kinds(&self, outcome: &Outcome) -> Vec<Kind> {
+        widen_kinds(ends(standing_for(self.raw)), outcome)
     }
 }
 
 /// A raw number: any, or near one where a sign or a range might turn.
 fn any_raw(random: &mut Random) -> u32 {
     let millions = 1_000_000 * random.pick(&[2, 3, 4, 6, 8, 12]);
-    let near: u32 = random.pick(&[0, 1 << 31, millions, millions]);
+    let corner = CORNER as u32;
+    let near = random.pick(&[0, 1 << 31, millions, corner + millions, corner - millions]);
     match random.below(2) {
         0 => random.next_bits() as u32,
         _ => near.wrapping_add(random.between(-2, 2) as u32),
     }
 }
 
+/// How the ends of a box are crossed: those of u, those of v, both or none.
+const CROSSINGS: [(bool, bool); 4] = [(false, false), (true, false), (false, true), (true, true)];
+
+/// The raw numbers of a box of sinks, each off by a little, then crossed; and
+/// one of the sinks, off by a little too, so that it meets the box's ends.
+fn near_raw(random: &mut Random, crossing: (bool, bool)) -> (RawBox, Sink) {
+    let n = 1 + random.below(3);
+    let Pins { x, y, delays } = draw::good_pins(random, n);
+    let held = box_of_sinks(&x, &y, &delays).expect("good sinks have a box");
+    let mut raw = raw_of(held).map(|number| number + random.below(3) as u32 - 1);
+    if crossing.0 {
+        raw.swap(0, 1);
+    }
+    if crossing.1 {
+        raw.swap(2, 3);
+    }
+    let at = random.below(n);
+    let mut beside = |coordinate: i32| coordinate + random.between(-2, 2);
+    let (x, y) = (beside(x[at]), beside(y[at]));
+    (raw, (x, y, random.pick(&[delays[at], delays[at] / 2, 0])))
+}
+
 fn widen_any(session: &mut Session, random: &mut Random) {
-    for _ in 0..16 {
+    for _ in 0..8 {
         let raw = [0; 4].map(|_: u32| any_raw(random));
+        let sink = any_sink(random);
+        session.check(&WidenAny { raw, sink });
+    }
+    for crossing in [CROSSINGS; 4].concat() {
+        let (raw, sink) = near_raw(random, crossing);
+        session.check(&WidenAny { raw, sink });
         let sink = any_sink(random);
         session.check(&WidenAny { raw, sink });
     }
 }
 
-/// The diameter of a box of any raw numbers, its least end perhaps above its
-/// greatest.
+/// The ends and the diameter of a box of any raw numbers, its least end
+/// perhaps above its greatest.
 struct ReadAny {
     raw: RawBox,
 }
 
 impl Task for ReadAny {
-    type Outcome = u64;
+    type Outcome = Left;
 
     fn describe(&self) -> String {
-        let ends = proved::ends(&self.raw);
-        format!("diameter of raw box {:?} with ends {ends:?}", self.raw)
+        format!("ends and diameter of raw box {:?}", self.raw)
     }
 
-    fn reference(&self, _salt: u64) -> u64 {
-        diameter(proved::ends(&self.raw))
+    fn reference(&self, _salt: u64) -> Left {
+        reference_left(standing_for(self.raw))
     }
 
-    fn proved(&self, _salt: u64) -> u64 {
-        u64::from(proved::diameter(&self.raw))
+    fn proved(&self, _salt: u64) -> Left {
+        proved_left(self.raw)
     }
 
-    fn tell(reference: &u64, proved: &u64) -> String {
-        format!("  reference: {reference}\n  proved:    {proved}\n")
+    fn tell(reference: &Left, proved: &Left) -> String {
+        tell_left(reference, proved)
+    }
+
+    fn kinds(&self, outcome: &Left) -> Vec<Kind> {
+        read_kinds(outcome)
     }
 }
 
 fn read_any(session: &mut Session, random: &mut Random) {
-    for _ in 0..16 {
+    for _ in 0..8 {
         let raw = [0; 4].map(|_: u32| any_raw(random));
+        session.check(&ReadAny { raw });
+    }
+    for crossing in [CROSSINGS; 4].concat() {
+        let (raw, _) = near_raw(random, crossing);
         session.check(&ReadAny { raw });
     }
 }

@@ -1,8 +1,8 @@
 //! One run of comparisons: what has been checked, and what has failed.
 
-use super::options::{Limit, Options};
+use super::kinds::{Kind, Tally};
+use super::options::Options;
 use std::path::Path;
-use std::time::Instant;
 
 /// Differences printed in full; later ones are only counted.
 const MOST_PRINTED: u64 = 10;
@@ -19,12 +19,14 @@ pub trait Task {
     fn proved(&self, salt: u64) -> Self::Outcome;
     /// Both outcomes in lines that show how they differ.
     fn tell(reference: &Self::Outcome, proved: &Self::Outcome) -> String;
+    /// The kinds of case that the task was, when this came of it.
+    fn kinds(&self, outcome: &Self::Outcome) -> Vec<Kind>;
 }
 
 /// The state of a run.
 pub struct Session {
     options: Options,
-    start: Instant,
+    tally: Tally,
     passed: u64,
     failed: u64,
     case: &'static str,
@@ -35,8 +37,8 @@ impl Session {
     /// A run that has checked nothing yet.
     pub fn new(options: Options) -> Session {
         Session {
+            tally: Tally::new(options.program.is_some()),
             options,
-            start: Instant::now(),
             passed: 0,
             failed: 0,
             case: "",
@@ -55,9 +57,10 @@ impl Session {
         self.round
     }
 
-    /// A small number of sinks, 1 to 14, in turn from round to round.
+    /// A small number of sinks, 1 to 14, each once in as many rounds; two
+    /// rounds that follow each other are far apart.
     pub fn small(&self) -> usize {
-        1 + self.round % 14
+        1 + 5 * self.round % 14
     }
 
     /// The proved tree program, if it is compared too.
@@ -65,23 +68,12 @@ impl Session {
         self.options.program.as_deref()
     }
 
-    /// Whether the run has reached its limit.
-    pub fn is_over(&self) -> bool {
-        match self.options.limit {
-            Limit::Count(count) => self.checked() >= count,
-            Limit::Time(time) => self.start.elapsed() >= time,
-        }
-    }
-
     fn checked(&self) -> u64 {
         self.passed + self.failed
     }
 
-    /// Asks both sides, unless the run is over.
+    /// Asks both sides.
     pub fn check<T: Task>(&mut self, task: &T) {
-        if self.is_over() {
-            return;
-        }
         let heading = || {
             let (case, seed, round) = (self.case, self.options.seed, self.round);
             let check = self.checked();
@@ -95,6 +87,7 @@ impl Session {
         let (reference, proved) = (task.reference(salt), task.proved(salt));
         if reference == proved {
             self.passed += 1;
+            self.tally.count(&task.kinds(&reference));
             return;
         }
         if self.failed < MOST_PRINTED {
@@ -104,14 +97,36 @@ impl Session {
         self.failed += 1;
     }
 
-    /// The last line of the run.
-    pub fn summary(&self) -> String {
-        format!("{} passed, {} failed", self.passed, self.failed)
+    /// How often each kind was reached, then a line for each that was not
+    /// and for a run that passed nothing.
+    pub fn report(&self) -> String {
+        let faults: String = self
+            .faults()
+            .iter()
+            .map(|line| format!("{line}\n"))
+            .collect();
+        self.tally.tables() + &faults
     }
 
-    /// Whether no difference was found.
+    /// What makes a run fail besides a difference.
+    fn faults(&self) -> Vec<String> {
+        let mut faults = self.tally.faults();
+        if self.passed == 0 {
+            faults.push("nothing passed".to_string());
+        }
+        faults
+    }
+
+    /// The last line of the run; a fault counts as a check that failed.
+    pub fn summary(&self) -> String {
+        let failed = self.failed + self.faults().len() as u64;
+        format!("{} passed, {failed} failed", self.passed)
+    }
+
+    /// Whether something passed, no difference was found, and every kind was
+    /// reached.
     pub fn is_clean(&self) -> bool {
-        self.failed == 0
+        self.failed == 0 && self.faults().is_empty()
     }
 }
 
@@ -135,29 +150,73 @@ mod tests {
         fn tell(reference: &u64, proved: &u64) -> String {
             format!("  {reference} {proved}\n")
         }
+        fn kinds(&self, _outcome: &u64) -> Vec<Kind> {
+            Tally::new(false).kinds()[..1].to_vec()
+        }
     }
 
-    fn session(count: &str) -> Session {
-        Session::new(Options::of_words(&["--count", count]).unwrap())
+    fn session() -> Session {
+        Session::new(Options::of_words(&[], None).unwrap())
+    }
+
+    /// The numbers of the last line.
+    fn counts(session: &Session) -> (u64, u64) {
+        let line = session.summary();
+        let words: Vec<&str> = line.split(' ').collect();
+        assert_eq!((words[1], words[3]), ("passed,", "failed"));
+        (words[0].parse().unwrap(), words[2].parse().unwrap())
     }
 
     #[test]
     fn differences_are_counted_as_failed() {
-        let mut session = session("9");
-        for proved in [7, 8, 7] {
+        let mut session = session();
+        for proved in [7, 8, 7, 9, 10] {
             session.check(&Fixed(proved));
         }
-        assert_eq!(session.summary(), "2 passed, 1 failed");
-        assert!(!session.is_clean() && !session.is_over());
+        let faults = session.faults().len() as u64;
+        assert_eq!(counts(&session), (2, 3 + faults));
+        assert!(!session.is_clean());
     }
 
     #[test]
-    fn no_check_is_made_beyond_the_count() {
-        let mut session = session("2");
-        for _ in 0..5 {
-            session.check(&Fixed(7));
+    fn a_run_without_a_check_fails() {
+        let session = session();
+        let (passed, failed) = counts(&session);
+        assert!(passed == 0 && failed > 0 && !session.is_clean());
+        assert!(session.report().ends_with("\nnothing passed\n"));
+    }
+
+    #[test]
+    fn a_run_is_clean_once_every_kind_was_reached() {
+        let mut session = session();
+        let kinds = Tally::new(false).faults().len() as u64;
+        session.check(&Fixed(7));
+        // Of the one kind that it is of, no other was reached.
+        assert_eq!(counts(&session), (1, kinds - 1));
+        assert!(!session.is_clean());
+        session.check(&Everything);
+        assert_eq!(counts(&session), (2, 0));
+        assert!(session.is_clean());
+        session.check(&Fixed(8));
+        assert_eq!(counts(&session), (2, 1));
+        assert!(!session.is_clean());
+    }
+
+    /// A check of every kind there is.
+    struct Everything;
+
+    impl Task for Everything {
+        type Outcome = ();
+        fn describe(&self) -> String {
+            String::new()
         }
-        assert_eq!(session.summary(), "2 passed, 0 failed");
-        assert!(session.is_clean() && session.is_over());
+        fn reference(&self, _salt: u64) {}
+        fn proved(&self, _salt: u64) {}
+        fn tell(_reference: &(), _proved: &()) -> String {
+            String::new()
+        }
+        fn kinds(&self, _outcome: &()) -> Vec<Kind> {
+            Tally::new(false).kinds()
+        }
     }
 }

@@ -1,6 +1,7 @@
 //! Embedding, joining by least diameter, and the exact search.
 
 use super::draw::{self, Pins};
+use super::kinds::{self, Kind};
 use super::lent::{refused, told, Outcome, Parts, Room};
 use super::session::{self, Session};
 use super::Case;
@@ -44,10 +45,31 @@ pub enum Call {
     Search,
 }
 
+impl Call {
+    /// All calls.
+    pub const ALL: [Call; 4] = [
+        Call::Embed,
+        Call::JoinNearest,
+        Call::EmbedNearest,
+        Call::Search,
+    ];
+
+    /// The name that the header has for it.
+    pub fn name(self) -> &'static str {
+        match self {
+            Call::Embed => "embed",
+            Call::JoinNearest => "join_nearest",
+            Call::EmbedNearest => "embed_nearest",
+            Call::Search => "search",
+        }
+    }
+}
+
 /// A call with its input and the lengths of what it is lent.
 #[derive(Clone, Debug)]
 pub struct Task {
-    call: Call,
+    /// The call.
+    pub call: Call,
     /// The sinks.
     pub pins: Pins,
     /// The joining order given, empty for all calls but one.
@@ -104,7 +126,7 @@ impl Task {
     }
 
     /// Checks the call in its own room and in every variant of it.
-    fn check_rooms(mut self, session: &mut Session, random: &mut Random) {
+    pub fn check_rooms(mut self, session: &mut Session, random: &mut Random) {
         for room in self.room.variants(random) {
             self.room = room;
             session.check(&self);
@@ -163,6 +185,14 @@ impl session::Task for Task {
 
     fn tell(reference: &Outcome, proved: &Outcome) -> String {
         Outcome::tell(reference, proved)
+    }
+
+    fn kinds(&self, outcome: &Outcome) -> Vec<Kind> {
+        let mut kinds = self.pins.kinds(self.call.name(), outcome.answer);
+        if self.call == Call::Search && outcome.answer.is_ok() {
+            kinds.push(kinds::budget(self.pins.x.len(), self.budget));
+        }
+        kinds
     }
 }
 

@@ -1,7 +1,7 @@
 use mathlib.Core.Path.{sym}
 use borrow.Author.Needs.{needs}
 use lib.Seq.{length-take-le}
-use Rattle.lines.proofs.Written.{printed-fits}
+use Rattle.lines.proofs.Printing.{printed-fits}
 use Rattle.tree.proofs.main.Statement.{statement}
 use Rattle.tree.proofs.main.Tie as tie
 
@@ -29,8 +29,14 @@ slice-aggregate-write-all c = let t = c .before .tree-lines in sym (length-take-
 write-all-requires : tie.Need-write-all-requires
 write-all-requires c κs = search needs
 
+tell-short-requires : tie.Need-tell-short-requires
+tell-short-requires c κs = search needs
+
 returns : tie.Need-returns
 returns c = search needs
+
+returns-2 : tie.Need-returns-2
+returns-2 c = search needs
 
 pub main-spec : {M : Type 1} → statement M
 main-spec =
@@ -44,4 +50,6 @@ main-spec =
     array-share-prefix-out
     slice-aggregate-write-all
     write-all-requires
-    returns)
+    tell-short-requires
+    returns
+    returns-2)

@@ -3,9 +3,10 @@ use denote.Ref.{now}
 use native.Mathlib.Omega.{arith}
 use borrow.Author.Needs.{needs}
 use Rattle.plane.specs.declared.refusal.Checked.the-variants.{Fine}
-use Rattle.embedding.specs.Embedding.{checkOrder, answer}
-use Rattle.embedding.proofs.Accepted.{has-room}
-use Rattle.embedding.proofs.Bounded.{order-sound}
+use Rattle.orders.specs.Joins.{checkOrder}
+use Rattle.embedding.specs.Embedding.{answer}
+use Rattle.embedding.proofs.Rooms.{has-room}
+use Rattle.orders.proofs.Bounded.{order-sound}
 use Rattle.embedding.proofs.embed.embed.Statement.{statement}
 use Rattle.embedding.proofs.embed.embed.Tie as tie
 
@@ -56,13 +57,13 @@ embed-sound-requires c κs =
     record { sound = order-sound _ _ _ _ (order-fine (p .before .before .before)); room-u = a; room-v = b; room-w = e }
 
 same-length : tie.Need-same-length
-same-length c = search needs
+same-length c = c .before .before .before .us .given
 
 same-length-2 : tie.Need-same-length-2
-same-length-2 c = search needs
+same-length-2 c = c .before .before .vs .given
 
 same-length-3 : tie.Need-same-length-3
-same-length-3 c = search needs
+same-length-3 c = c .before .ws .given
 
 returns-3 : tie.Need-returns-3
 unfolding answer

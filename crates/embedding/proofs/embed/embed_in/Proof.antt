@@ -1,17 +1,12 @@
-use mathlib.Core.Path.{ap, _∙_}
-use mathlib.Core.List.{List}
-use denote.Ref.{now}
-use Prim.Native.Nat.{ℕ}
+use mathlib.Core.Path.{_∙_}
 use native.Mathlib.Omega.{arith}
-use borrow.Author.Needs.{needs}
-use Rattle.lists.specs.Grow.{front}
 use Rattle.plane.proofs.Checks.{placed}
-use Rattle.embedding.proofs.Whole.{all-sized, climbs, wires-are, places-are}
+use Rattle.embedding.proofs.Whole.{all-sized, climbs, embeds}
 use Rattle.embedding.proofs.embed.embed_in.Statement.{statement}
 use Rattle.embedding.proofs.embed.embed_in.Tie as tie
 
 put-nodes-requires : tie.Need-put-nodes-requires
-put-nodes-requires c κs = search needs
+put-nodes-requires c κs = (c .before .before .before .before .before .before .before .before .before .pre .0 .sound, c .before .before .before .before .before .before .before .before .before .pre .1)
 
 join-places-requires : tie.Need-join-places-requires
 join-places-requires c κs = (all-sized (c .before .before .before .before .before .before .before .before .before .before .before .put-nodes .ensures .0), c .before .before .before .before .before .before .before .before .before .before .before .before .before .before .before .before .before .before .before .before .before .pre .0 .room-u, c .before .before .before .before .before .before .before .before .before .before .before .before .before .before .before .before .before .before .before .before .before .pre .0 .room-v)
@@ -25,35 +20,25 @@ write-wires-requires : tie.Need-write-wires-requires
 write-wires-requires c κs = (climbs (c .before .before .before .before .before .before .before .before .before .before .before .before .before .before .before .before .before .before .before .before .before .before .put-nodes .ensures .0), c .before .before .before .before .before .before .before .before .before .before .before .before .before .before .before .before .before .before .before .before .before .before .before .before .before .before .before .before .before .before .before .before .pre .0 .room-w)
 
 same-length : tie.Need-same-length
-same-length c = search needs
+same-length c = c .before .before .before .before .before .before .before .us2 .given ∙ c .before .before .before .before .before .before .before .before .before .before .before .before .us .given
 
 same-length-2 : tie.Need-same-length-2
-same-length-2 c = search needs
+same-length-2 c = c .before .before .before .before .before .before .vs2 .given ∙ c .before .before .before .before .before .before .before .before .before .before .before .vs .given
 
 same-length-3 : tie.Need-same-length-3
-same-length-3 c = search needs
+same-length-3 c = c .before .ws .given
 
 same-length-4 : tie.Need-same-length-4
-same-length-4 c = search needs
+same-length-4 c = c .before .before .before .before .before .before .before .before .before .before .before .before .before .before .before .before .before .before .before .before .before .before .before .before .bs .given
 
 same-length-5 : tie.Need-same-length-5
-same-length-5 c = search needs
+same-length-5 c = c .before .before .before .before .before .before .before .before .before .before .before .before .before .before .before .before .before .before .before .before .before .before .ds .given
 
 same-length-6 : tie.Need-same-length-6
-same-length-6 c = search needs
+same-length-6 c = c .before .before .before .before .before .before .before .before .before .before .before .before .before .before .before .before .before .before .before .before .ps .given
 
 returns : tie.Need-returns
-returns c =
-    let a = c .before .before .before .before .before .before .before .before .before .before .before .before .before .before .before .before .before .before .before .before .before .before .before .before .before .before .before .before .before .before .before .before .before .before .before .args in
-    let r = c .before .before .before .before .before .before .before .before .before .before .before .before .before .before .before .before .before .before .before .before .before .before .before .before .before .before .before .before .before .before .before .before .before .before .before .pre .0 in
-    let m = c .before .before .before .before .before .before .before .before .before .before .before .before .before .before .before .before .before .before .before .before .before .before .before .before .before .put-nodes .ensures .0 in
-    let p = places-are (now (a .delays)) (placed (r .sound .sinks)) m (r .room-u) (r .room-v) (c .before .before .before .before .before .before .before .us2 .given ∙ c .before .before .before .before .before .before .before .before .before .before .before .before .us .given) (c .before .before .before .before .before .before .vs2 .given ∙ c .before .before .before .before .before .before .before .before .before .before .before .vs .given) (c .before .before .before .before .before .before .before .before .before .before .before .before .before .join-places .ensures) (c .before .before .before .before .before .before .before .before .sink-places .ensures) in
-    record {
-      sums = c .before .before .before .before .before .before .before .before .before .before .before .before .before .before .before .before .before .before .before .before .before .before .before .before .before .put-nodes .ensures .1;
-      writes-u = p .0;
-      writes-v = p .1;
-      writes-w = c .before .before .write-wires .ensures ∙ ap (λ (l : List ℕ). front l (now (a .ws))) (wires-are m);
-    }
+returns c = embeds (c .before .before .before .before .before .before .before .before .before .before .before .before .before .before .before .before .before .before .before .before .before .before .before .before .before .before .before .before .before .before .before .before .before .before .before .pre .0) (c .before .before .before .before .before .before .before .before .before .before .before .before .before .before .before .before .before .before .before .before .before .before .before .before .before .put-nodes .ensures .0) (c .before .before .before .before .before .before .before .before .before .before .before .before .before .before .before .before .before .before .before .before .before .before .before .before .before .put-nodes .ensures .1) (c .before .before .before .before .before .before .before .us2 .given ∙ c .before .before .before .before .before .before .before .before .before .before .before .before .us .given) (c .before .before .before .before .before .before .vs2 .given ∙ c .before .before .before .before .before .before .before .before .before .before .before .vs .given) (c .before .before .before .before .before .before .before .before .before .before .before .before .before .join-places .ensures) (c .before .before .before .before .before .before .before .before .sink-places .ensures) (c .before .before .write-wires .ensures)
 
 pub embed-in-spec : {M : Type 1} → statement M
 embed-in-spec =

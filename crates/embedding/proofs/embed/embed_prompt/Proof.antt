@@ -18,13 +18,13 @@ embed-sound-requires : tie.Need-embed-sound-requires
 embed-sound-requires c κs = rw (zeros-lent 512 (length (now (c .before .before .before .before .before .before .before .args .xs))) (c .before .before .before .before .before .before .before .pre .sound .joins .few)) (c .before .before .before .before .before .before .before .pre)
 
 same-length : tie.Need-same-length
-same-length c = search needs
+same-length c = c .before .before .before .us .given
 
 same-length-2 : tie.Need-same-length-2
-same-length-2 c = search needs
+same-length-2 c = c .before .before .vs .given
 
 same-length-3 : tie.Need-same-length-3
-same-length-3 c = search needs
+same-length-3 c = c .before .ws .given
 
 returns : tie.Need-returns
 returns c = rw (zeros-lent 512 (length (now (c .before .before .before .before .before .before .before .before .before .before .before .before .args .xs))) (c .before .before .before .before .before .before .before .before .before .before .before .before .pre .sound .joins .few)) at (c .before .before .before .before .embed-sound .ensures)

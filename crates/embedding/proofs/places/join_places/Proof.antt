@@ -1,9 +1,9 @@
 use mathlib.Core.Path.{_≡_, refl, _∙_}
-use Prim.Native.Nat.{_-_, _*_, _≤_, _<_}
+use Prim.Native.Nat.{_-_, _*_, _≤_}
 use native.Mathlib.Omega.{arith}
 use lib.ListN.{length}
 use Rattle.embedding.specs.Places.{PutsDown}
-use Rattle.embedding.proofs.Spots.{spots-held, down-begin, down-again, down-more, down-done, open-at}
+use Rattle.embedding.proofs.Spots.{down-begin, down-again, down-more, down-done, open-at, open-next, still-room}
 use Rattle.embedding.proofs.places.join_places.Statement.{statement}
 use Rattle.embedding.proofs.places.join_places.Tie as tie
 
@@ -34,28 +34,17 @@ entry-requires c κs = omega (arith, c .before .before .before .before .before .
 
 put-near-requires : tie.Need-put-near-requires Inv-loop μ-loop
 put-near-requires c κs =
-    let n = c .before .before .before .before .before .before .before .before .before .before .before .before .before .args .n in
-    let k = c .before .before .before .before .loop .k in
     let v = c .before .before .before .before .loop .inv in
-    let h : n < k = c .before .before .before .loop-test .taken in
-    let a : 2 * n - 1 ≤ length (c .before .before .before .before .loop .us) = omega (arith, c .before .before .before .before .before .before .before .before .before .before .before .before .before .pre .1, c .before .before .before .before .before .before .us .given, v .1) in
-    let b : 2 * n - 1 ≤ length (c .before .before .before .before .loop .vs) = omega (arith, c .before .before .before .before .before .before .before .before .before .before .before .before .before .pre .2, c .before .before .before .before .before .vs .given, v .2) in
-    let r = c .before .before .before .before .before .before .before .before .before .before .before .before .before .pre .0 .rising (k - 1) (omega (arith, v .0)) in
-    let e = c .before .before .entry .ensures in
-    (open-at (k - 1) (c .before .before .before .before .before .before .before .before .before .before .before .before .before .pre .0) a b (omega (arith, v .0)), (omega arith, omega arith), spots-held (v .3 .spots) (c .before .before .entry .result) (omega arith) (omega arith))
+    open-next (c .before .before .before .before .before .before .before .before .before .before .before .before .before .pre .0) (still-room (c .before .before .before .before .before .before .before .before .before .before .before .before .before .pre .1) (c .before .before .before .before .before .before .us .given) (v .1)) (still-room (c .before .before .before .before .before .before .before .before .before .before .before .before .before .pre .2) (c .before .before .before .before .before .vs .given) (v .2)) (c .before .before .before .loop-test .taken) (v .0) (c .before .before .entry .ensures) (v .3 .spots)
 
 loop-less : tie.Need-loop-less Inv-loop μ-loop
 loop-less c = omega arith
 
 loop-again : tie.Need-loop-again Inv-loop μ-loop
 loop-again c =
-    let n = c .before .before .before .before .before .before .before .before .before .before .before .before .before .before .before .before .args .n in
-    let k = c .before .before .before .before .before .before .before .loop .k in
     let v = c .before .before .before .before .before .before .before .loop .inv in
-    let h : n < k = c .before .before .before .before .before .before .loop-test .taken in
-    let a : 2 * n - 1 ≤ length (c .before .before .before .before .before .before .before .loop .us) = omega (arith, c .before .before .before .before .before .before .before .before .before .before .before .before .before .before .before .before .pre .1, c .before .before .before .before .before .before .before .before .before .us .given, v .1) in
-    let b : 2 * n - 1 ≤ length (c .before .before .before .before .before .before .before .loop .vs) = omega (arith, c .before .before .before .before .before .before .before .before .before .before .before .before .before .before .before .before .pre .2, c .before .before .before .before .before .before .before .before .vs .given, v .2) in
-    (omega (arith, v .0), c .before .us2 .given ∙ v .1, c .vs2 .given ∙ v .2, down-more (c .before .before .before .before .before .entry .result) (c .before .before .before .before .before .entry .ensures) (omega arith) (v .0) (c .before .before .before .before .before .before .before .before .before .before .before .before .before .before .before .before .pre .0 .rising) (c .before .before .before .before .before .before .before .before .before .before .before .before .before .before .before .before .pre .0 .fair (k - 1) (omega (arith, v .0))) (omega (arith, v .0), omega (arith, v .0)) (v .3) (c .before .before .put-near .ensures))
+    let o = open-next (c .before .before .before .before .before .before .before .before .before .before .before .before .before .before .before .before .pre .0) (still-room (c .before .before .before .before .before .before .before .before .before .before .before .before .before .before .before .before .pre .1) (c .before .before .before .before .before .before .before .before .before .us .given) (v .1)) (still-room (c .before .before .before .before .before .before .before .before .before .before .before .before .before .before .before .before .pre .2) (c .before .before .before .before .before .before .before .before .vs .given) (v .2)) (c .before .before .before .before .before .before .loop-test .taken) (v .0) (c .before .before .before .before .before .entry .ensures) (v .3 .spots) .0 in
+    (omega (arith, v .0), c .before .us2 .given ∙ v .1, c .vs2 .given ∙ v .2, down-more (c .before .before .before .before .before .entry .result) (c .before .before .before .before .before .entry .ensures) (omega arith) (v .0) (c .before .before .before .before .before .before .before .before .before .before .before .before .before .before .before .before .pre .0 .rising) (o .fair) (o .has) (v .3) (c .before .before .put-near .ensures))
 
 same-length : tie.Need-same-length Inv-loop μ-loop
 same-length c = c .before .loop .inv .1 ∙ c .before .before .before .us .given

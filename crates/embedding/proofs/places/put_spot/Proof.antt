@@ -1,6 +1,6 @@
 use native.Mathlib.Omega.{arith}
 use borrow.Author.Needs.{needs}
-use Rattle.plane.proofs.Numbers.{wrote}
+use Rattle.measures.proofs.Numbers.{wrote}
 use Rattle.embedding.proofs.places.put_spot.Statement.{statement}
 use Rattle.embedding.proofs.places.put_spot.Tie as tie
 

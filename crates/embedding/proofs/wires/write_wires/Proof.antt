@@ -5,7 +5,7 @@ use native.Mathlib.Omega.{arith}
 use borrow.Author.Tests.{lt-ltb, le-ltb}
 use lib.ListN.{length, getD, length-set}
 use Rattle.lists.proofs.Grow.{Filled, filled-begin, filled-more, filled-last, tab-at}
-use Rattle.embedding.specs.Arrays.{wireIn}
+use Rattle.orders.specs.Arrays.{wireIn}
 use Rattle.embedding.proofs.wires.write_wires.Statement.{statement}
 use Rattle.embedding.proofs.wires.write_wires.Tie as tie
 

@@ -1,8 +1,8 @@
 use mathlib.Core.Path.{sym, _∙_}
 use native.Mathlib.Omega.{arith}
 use Rattle.house.specs.Reading.{checkJoinedFile}
-use Rattle.house.proofs.Scan.{formed-less}
-use Rattle.house.proofs.Standing.{formed}
+use Rattle.fields.proofs.Scan.{formed-less}
+use Rattle.fields.proofs.Standing.{formed}
 use borrow.Author.Needs.{needs}
 use Rattle.house.proofs.joined_file.check_joined_file.Statement.{statement}
 use Rattle.house.proofs.joined_file.check_joined_file.Tie as tie

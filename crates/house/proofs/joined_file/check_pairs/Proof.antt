@@ -1,9 +1,9 @@
 use denote.Ref.{now}
 use Prim.Native.Nat.{_/_}
 use lib.ListN.{length, replicate}
-use Rattle.house.specs.Fields.{numbersIn}
-use Rattle.house.proofs.Values.{length-numbersIn}
-use Rattle.house.proofs.Answers.{front-part}
+use Rattle.fields.specs.Fields.{numbersIn}
+use Rattle.fields.proofs.Values.{length-numbersIn}
+use Rattle.lists.proofs.Front.{front-lent}
 use Rattle.house.proofs.JoinsAnswers.{too-many-pairs}
 use borrow.Author.Needs.{needs}
 use Rattle.house.proofs.joined_file.check_pairs.Statement.{statement}
@@ -41,7 +41,7 @@ returns-2 : tie.Need-returns-2
 returns-2 c =
     let g = c .before .before .before .before .get-nodes .ensures in
     let v = now (c .before .before .before .before .before .before .before .before .args .v) in
-    rw (front-part (numbersIn 2 v) (replicate 1022 0) (length v / 2) g (length-numbersIn 2 v)) at (c .check-joins .ensures)
+    rw (front-lent (numbersIn 2 v) (replicate 1022 0) (length v / 2) g (length-numbersIn 2 v)) at (c .check-joins .ensures)
 
 pub check-pairs-spec : {M : Type 1} → statement M
 check-pairs-spec =

@@ -3,9 +3,9 @@ use native.Mathlib.Omega.{arith}
 use denote.Ref.{now}
 use Rattle.plane.specs.Sinks.{prompt}
 use Rattle.plane.proofs.Checks.{accepted}
-use Rattle.embedding.specs.Embedding.{checkOrder}
-use Rattle.house.specs.Fields.{firsts, seconds}
-use Rattle.house.proofs.Values.{length-firsts}
+use Rattle.orders.specs.Joins.{checkOrder}
+use Rattle.fields.specs.Fields.{firsts, seconds}
+use Rattle.fields.proofs.Values.{length-firsts}
 use borrow.Author.Needs.{needs}
 use Rattle.house.proofs.joined_file.check_values.Statement.{statement}
 use Rattle.house.proofs.joined_file.check_values.Tie as tie

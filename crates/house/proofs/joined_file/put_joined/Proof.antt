@@ -1,7 +1,7 @@
 use native.Mathlib.Omega.{arith}
 use denote.Ref.{now}
 use Rattle.house.proofs.Lengths.{length-sinkFile, joined-is}
-use Rattle.house.proofs.Stores.{put-more, put-size}
+use Rattle.fields.proofs.Stores.{put-more, put-size}
 use borrow.Author.Needs.{needs}
 use Rattle.house.proofs.joined_file.put_joined.Statement.{statement}
 use Rattle.house.proofs.joined_file.put_joined.Tie as tie

@@ -1,9 +1,9 @@
 use mathlib.Core.Path.{sym, _∙_}
 use denote.Ref.{now}
 use Rattle.plane.proofs.Checks.{both-pass}
-use Rattle.house.specs.Form.{form}
+use Rattle.fields.specs.Form.{form}
 use Rattle.house.specs.Reading.{checkJoinedFile}
-use Rattle.house.proofs.Standing.{formed}
+use Rattle.fields.proofs.Standing.{formed}
 use Rattle.house.proofs.JoinsAnswers.{joins-refused, joins-passed}
 use borrow.Author.Needs.{needs}
 use Rattle.house.proofs.joined_file.read_joined.Statement.{statement}

@@ -1,6 +1,6 @@
 use mathlib.Core.Path.{sym}
 use native.Mathlib.Omega.{arith}
-use Rattle.house.proofs.Scan.{formed-less}
+use Rattle.fields.proofs.Scan.{formed-less}
 use Rattle.house.proofs.Answers.{sinks-in}
 use Rattle.house.proofs.JoinsAnswers.{nodes-in, short-x, short-y, short-j, joins-read}
 use borrow.Author.Needs.{needs}

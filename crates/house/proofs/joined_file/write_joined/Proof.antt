@@ -5,8 +5,8 @@ use denote.Ref.{now}
 use lib.ListN.{length}
 use Rattle.plane.specs.Sinks.{prompt}
 use Rattle.plane.specs.declared.refusal.Checked.the-variants.{Fine}
-use Rattle.embedding.specs.Embedding.{checkOrder}
-use Rattle.embedding.proofs.Bounded.{order-sound}
+use Rattle.orders.specs.Joins.{checkOrder}
+use Rattle.orders.proofs.Bounded.{order-sound}
 use Rattle.house.specs.Files.{joinedFile}
 use Rattle.house.proofs.Answers.{not-written, no-room, did-write}
 use Rattle.house.proofs.Lengths.{length-joinedFile}

@@ -3,9 +3,10 @@ use Prim.Native.Nat.{_/_}
 use lib.IntN.{pos}
 use lib.ListN.{length, replicate}
 use Rattle.plane.proofs.Checks.{check-prompt}
-use Rattle.house.specs.Fields.{firsts, seconds}
-use Rattle.house.proofs.Values.{length-firsts, length-seconds}
-use Rattle.house.proofs.Answers.{too-many, front-part}
+use Rattle.fields.specs.Fields.{firsts, seconds}
+use Rattle.fields.proofs.Values.{length-firsts, length-seconds}
+use Rattle.lists.proofs.Front.{front-lent}
+use Rattle.house.proofs.Answers.{too-many}
 use borrow.Author.Needs.{needs}
 use Rattle.house.proofs.sink_file.check_places.Statement.{statement}
 use Rattle.house.proofs.sink_file.check_places.Tie as tie
@@ -49,8 +50,8 @@ returns-2 : tie.Need-returns-2
 returns-2 c =
     let v = now (c .before .before .before .before .before .before .before .before .before .before .before .before .args .v) in
     let g = c .before .before .before .before .before .before .before .get-places .ensures in
-    let p = front-part (firsts v) (replicate 512 (pos 0)) (length v / 8) (g .0) (length-firsts v) in
-    let q = front-part (seconds v) (replicate 512 (pos 0)) (length v / 8) (g .1) (length-seconds v) in
+    let p = front-lent (firsts v) (replicate 512 (pos 0)) (length v / 8) (g .0) (length-firsts v) in
+    let q = front-lent (seconds v) (replicate 512 (pos 0)) (length v / 8) (g .1) (length-seconds v) in
     rw (check-prompt 512 (firsts v) (seconds v)) (rw (p, q) at (c .check-places .ensures))
 
 pub check-places-spec : {M : Type 1} → statement M

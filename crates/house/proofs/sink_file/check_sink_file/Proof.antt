@@ -1,7 +1,7 @@
 use mathlib.Core.Path.{sym, _∙_}
 use native.Mathlib.Omega.{arith}
 use Rattle.house.specs.Reading.{checkSinkFile}
-use Rattle.house.proofs.Standing.{formed}
+use Rattle.fields.proofs.Standing.{formed}
 use borrow.Author.Needs.{needs}
 use Rattle.house.proofs.sink_file.check_sink_file.Statement.{statement}
 use Rattle.house.proofs.sink_file.check_sink_file.Tie as tie

@@ -1,9 +1,9 @@
-use Rattle.house.specs.Fields.{version}
-use Rattle.house.proofs.Lengths.{length-field}
+use Rattle.fields.specs.Fields.{version}
+use Rattle.fields.proofs.Fieldwise.{length-field}
 use mathlib.Core.List.{append-nil}
 use native.Mathlib.Omega.{arith}
 use Rattle.house.specs.Files.{sinkFile}
-use Rattle.house.proofs.Stores.{put-more, put-size}
+use Rattle.fields.proofs.Stores.{put-more, put-size}
 use borrow.Author.Needs.{needs}
 use Rattle.house.proofs.sink_file.put_sinks.Statement.{statement}
 use Rattle.house.proofs.sink_file.put_sinks.Tie as tie

@@ -2,8 +2,8 @@ use mathlib.Core.Path.{refl, ap}
 use mathlib.Core.List.{List}
 use Prim.Native.Nat.{ℕ}
 use lib.ListN.{set}
-use Rattle.house.specs.Bytes.{big}
-use Rattle.house.specs.Fields.{field}
+use Rattle.fields.specs.Bytes.{big}
+use Rattle.fields.specs.Fields.{field}
 use borrow.Author.Needs.{needs}
 use Rattle.house.proofs.sink_file.put_version.Statement.{statement}
 use Rattle.house.proofs.sink_file.put_version.Tie as tie

@@ -1,9 +1,9 @@
 use Rattle.plane.proofs.Checks.{both-pass}
 use denote.Ref.{now}
-use Rattle.house.specs.Form.{form}
+use Rattle.fields.specs.Form.{form}
 use mathlib.Core.Path.{sym, _∙_}
 use Rattle.house.specs.Reading.{checkSinkFile}
-use Rattle.house.proofs.Standing.{formed}
+use Rattle.fields.proofs.Standing.{formed}
 use Rattle.house.proofs.Answers.{sinks-refused, sinks-passed}
 use borrow.Author.Needs.{needs}
 use Rattle.house.proofs.sink_file.read_sinks.Statement.{statement}

@@ -5,17 +5,18 @@ use Prim.Native.Nat.{ℕ, _<_, _-_, _+_}
 use native.Mathlib.Omega.{arith}
 use borrow.Fn.Kinds.{In}
 use borrow.Fn.PlainCycle.{Measures, is, falls, and}
-use Rattle.lines.specs.Brackets.{blank, brackets}
-use Rattle.embedding.specs.Nodes.{node}
-use Rattle.lines.specs.Written.{Room}
+use Rattle.text.specs.Decimal.{blank}
+use Rattle.lines.specs.Brackets.{brackets}
+use Rattle.orders.specs.Nodes.{node}
+use Rattle.text.specs.Written.{Room}
 use Rattle.lines.proofs.Children.{around, sink-text, join-text, left-low, right-low}
-use Rattle.lines.proofs.Written.{room-here, room-then, then, written-size}
+use Rattle.text.proofs.Written.{room-here, room-then, then, written-size}
 use Rattle.lines.proofs.brackets.subtree.Reads as subtree
 use Rattle.lines.proofs.brackets.subtree.Kinds as subtree-kinds
 use Rattle.lines.proofs.brackets.+subtree.Lts-subtree as subtree-lts
-use Rattle.embedding.proofs.joins.entry.Reads as entry-reads
-use Rattle.lines.proofs.write.byte.Reads as byte-reads
-use Rattle.lines.proofs.write.number.Reads as number-reads
+use Rattle.orders.proofs.joins.entry.Reads as entry-reads
+use Rattle.text.proofs.write.byte.Reads as byte-reads
+use Rattle.text.proofs.write.number.Reads as number-reads
 use Rattle.lines.proofs.brackets.+subtree.{statement}
 use Rattle.lines.proofs.brackets.+subtree.Tie.{close}
 

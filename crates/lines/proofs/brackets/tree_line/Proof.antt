@@ -1,7 +1,7 @@
 use mathlib.Core.List.{[], _∷_}
 use native.Mathlib.Omega.{arith}
 use Rattle.lines.specs.Lines.{feed, secondLine}
-use Rattle.lines.proofs.Written.{room-here, room-then, then}
+use Rattle.text.proofs.Written.{room-here, room-then, then}
 use borrow.Author.Needs.{needs}
 use Rattle.lines.proofs.brackets.tree_line.Statement.{statement}
 use Rattle.lines.proofs.brackets.tree_line.Tie as tie

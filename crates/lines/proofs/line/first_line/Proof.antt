@@ -2,7 +2,7 @@ use borrow.Author.Needs.{needs}
 use native.Mathlib.Omega.{arith}
 use lib.ListN.{length-append}
 use Rattle.lines.specs.Lines.{firstLine}
-use Rattle.lines.proofs.Written.{then, written-size}
+use Rattle.text.proofs.Written.{then, written-size}
 use Rattle.lines.proofs.line.first_line.Statement.{statement}
 use Rattle.lines.proofs.line.first_line.Tie as tie
 

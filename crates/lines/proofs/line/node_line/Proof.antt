@@ -1,10 +1,10 @@
 use Prim.Native.Nat.{_≤_}
 use native.Mathlib.Omega.{arith}
 use lib.ListN.{length}
-use Rattle.lines.specs.Decimal.{decimal}
-use Rattle.lines.proofs.Decimal.{decimal-length}
+use Rattle.text.specs.Decimal.{decimal}
+use Rattle.text.proofs.Decimal.{decimal-length}
 use Rattle.lines.proofs.Fields.{fields}
-use Rattle.lines.proofs.Written.{then, written-size}
+use Rattle.text.proofs.Written.{then, written-size}
 use borrow.Author.Needs.{needs}
 use Rattle.lines.proofs.line.node_line.Statement.{statement}
 use Rattle.lines.proofs.line.node_line.Tie as tie

@@ -2,9 +2,9 @@ use mathlib.Core.Path.{_≡_}
 use Prim.Native.Nat.{_≤_, _+_, _-_, _*_}
 use native.Mathlib.Omega.{arith}
 use Rattle.lines.specs.Lines.{nodeLines}
-use Rattle.lines.specs.Written.{Written}
+use Rattle.text.specs.Written.{Written}
 use Rattle.lines.proofs.Fields.{line-next}
-use Rattle.lines.proofs.Written.{nothing, written-size}
+use Rattle.text.proofs.Written.{nothing, written-size}
 use Rattle.lines.proofs.line.node_lines.Statement.{statement}
 use Rattle.lines.proofs.line.node_lines.Tie as tie
 

@@ -1,9 +1,9 @@
 use Prim.Native.Nat.{_<_, _-_, _*_}
 use native.Mathlib.Omega.{arith}
 use lib.ListN.{getD}
-use Rattle.lines.proofs.Decimal.{decimal-length}
+use Rattle.text.proofs.Decimal.{decimal-length}
 use Rattle.lines.proofs.Fields.{field-root, field-other}
-use Rattle.lines.proofs.Written.{then, written-size}
+use Rattle.text.proofs.Written.{then, written-size}
 use borrow.Author.Needs.{needs}
 use Rattle.lines.proofs.line.parent_field.Statement.{statement}
 use Rattle.lines.proofs.line.parent_field.Tie as tie

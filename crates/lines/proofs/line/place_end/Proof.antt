@@ -1,6 +1,6 @@
 use native.Mathlib.Omega.{arith}
-use Rattle.lines.proofs.Decimal.{decimal-length}
-use Rattle.lines.proofs.Written.{then, written-size}
+use Rattle.text.proofs.Decimal.{decimal-length}
+use Rattle.text.proofs.Written.{then, written-size}
 use borrow.Author.Needs.{needs}
 use Rattle.lines.proofs.line.place_end.Statement.{statement}
 use Rattle.lines.proofs.line.place_end.Tie as tie

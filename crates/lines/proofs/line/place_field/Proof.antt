@@ -6,7 +6,7 @@ use lib.ListN.{getD}
 use mir.Facts.{toZ-ofZ}
 use mir.Syntax.{w32}
 use mir.Val.{SFits}
-use Rattle.lines.proofs.Signed.{signed-length}
+use Rattle.text.proofs.Signed.{signed-length}
 use Rattle.lines.proofs.line.place_field.Statement.{statement}
 use Rattle.lines.proofs.line.place_field.Tie as tie
 

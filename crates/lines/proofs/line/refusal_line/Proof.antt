@@ -1,8 +1,8 @@
 use native.Mathlib.Omega.{arith}
-use Rattle.lines.proofs.Decimal.{decimal-length}
+use Rattle.text.proofs.Decimal.{decimal-length}
 use mathlib.Core.Path.{_∙_}
 use Rattle.lines.proofs.Fields.{refusal-parts}
-use Rattle.lines.proofs.Written.{then, written-size}
+use Rattle.text.proofs.Written.{then, written-size}
 use borrow.Author.Needs.{needs}
 use Rattle.lines.proofs.line.refusal_line.Statement.{statement}
 use Rattle.lines.proofs.line.refusal_line.Tie as tie

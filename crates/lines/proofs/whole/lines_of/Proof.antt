@@ -4,7 +4,7 @@ use lib.ListN.{length}
 use Rattle.lines.specs.Lines.{firstLine}
 use Rattle.lines.proofs.Same.{text-with}
 use Rattle.lines.proofs.Size.{first-length, second-length}
-use Rattle.lines.proofs.Written.{then, written-size}
+use Rattle.text.proofs.Written.{then, written-size}
 use borrow.Author.Needs.{needs}
 use Rattle.lines.proofs.whole.lines_of.Statement.{statement}
 use Rattle.lines.proofs.whole.lines_of.Tie as tie

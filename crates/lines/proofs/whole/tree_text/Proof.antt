@@ -1,6 +1,6 @@
 use native.Mathlib.Omega.{arith}
-use Rattle.embedding.proofs.Parents.{parent-above}
-use Rattle.lines.proofs.Written.{printed}
+use Rattle.orders.proofs.Parents.{parent-above}
+use Rattle.lines.proofs.Printing.{printed}
 use borrow.Author.Needs.{needs}
 use Rattle.lines.proofs.whole.tree_text.Statement.{statement}
 use Rattle.lines.proofs.whole.tree_text.Tie as tie

@@ -4,9 +4,9 @@ use native.Mathlib.Omega.{arith}
 use denote.Ref.{now}
 use lib.ListN.{length}
 use Rattle.lists.specs.Grow.{upTo}
-use Rattle.plane.specs.Boxes.{InOrder}
-use Rattle.nearest.specs.Rows.{rowAt, Right}
-use Rattle.nearest.proofs.Entering.{right-none}
+use Rattle.measures.specs.Boxes.{InOrder}
+use Rattle.partners.specs.Rows.{rowAt, Right}
+use Rattle.partners.proofs.Entering.{right-none}
 use Rattle.nearest.proofs.Going.{right-sink}
 use Rattle.nearest.proofs.keep.begin.Statement.{statement}
 use Rattle.nearest.proofs.keep.begin.Tie as tie

@@ -4,7 +4,7 @@ use native.Mathlib.Omega.{arith}
 use denote.Ref.{now}
 use lib.ListN.{length, length-set}
 use lib.Seq.{getD-set-same, getD-set-other}
-use Rattle.nearest.proofs.Moving.{both-left}
+use Rattle.partners.proofs.Moving.{both-left}
 use borrow.Author.Needs.{needs}
 use Rattle.nearest.proofs.keep.close.Statement.{statement}
 use Rattle.nearest.proofs.keep.close.Tie as tie

@@ -1,6 +1,6 @@
 use native.Mathlib.Omega.{arith}
-use Rattle.nearest.proofs.Entering.{entered}
-use Rattle.nearest.proofs.Moving.{both-left}
+use Rattle.partners.proofs.Entering.{entered}
+use Rattle.partners.proofs.Moving.{both-left}
 use borrow.Author.Needs.{needs}
 use Rattle.nearest.proofs.keep.close_rows.Statement.{statement}
 use Rattle.nearest.proofs.keep.close_rows.Tie as tie

@@ -1,4 +1,4 @@
-use Rattle.nearest.proofs.Entering.{entered}
+use Rattle.partners.proofs.Entering.{entered}
 use borrow.Author.Needs.{needs}
 use Rattle.nearest.proofs.keep.enter.Statement.{statement}
 use Rattle.nearest.proofs.keep.enter.Tie as tie

@@ -1,5 +1,5 @@
 use native.Mathlib.Omega.{arith}
-use Rattle.nearest.proofs.Entering.{seated-first, seated-more}
+use Rattle.partners.proofs.Entering.{seated-first, seated-more}
 use borrow.Author.Needs.{needs}
 use Rattle.nearest.proofs.keep.seat.Statement.{statement}
 use Rattle.nearest.proofs.keep.seat.Tie as tie

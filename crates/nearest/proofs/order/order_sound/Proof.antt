@@ -8,7 +8,7 @@ use lib.ListN.{length, take, replicate}
 use lib.Seq.{length-take-le, length-front}
 use Rattle.plane.specs.Sinks.{sinksAt}
 use Rattle.plane.proofs.Checks.{fitting}
-use Rattle.nearest.proofs.Boxing.{covers-in-order}
+use Rattle.partners.proofs.Boxing.{covers-in-order}
 use Rattle.nearest.proofs.Going.{Going, going-begin, going-turn, going-open, going-end}
 use Rattle.nearest.proofs.order.order_sound.Statement.{statement}
 use Rattle.nearest.proofs.order.order_sound.Tie as tie

@@ -3,7 +3,7 @@ use denote.Ref.{now}
 use native.Mathlib.Omega.{arith}
 use lib.ListN.{length}
 use Rattle.plane.specs.declared.refusal.Checked.the-variants.{Fine}
-use Rattle.embedding.proofs.Accepted.{has-room}
+use Rattle.embedding.proofs.Rooms.{has-room}
 use Rattle.nearest.specs.Calls.{checkNearest, treeAnswer}
 use Rattle.nearest.proofs.Passing.{ready}
 use borrow.Author.Needs.{needs}

@@ -25,7 +25,7 @@ part-embed-sound-end c = search needs
 embed-sound-requires : tie.Need-embed-sound-requires
 embed-sound-requires c κs =
     let s = c .before .before .before .before .before .before .before .before .before .before .before .before in
-    let o = order-taken (now (s .args .xs)) (now (s .args .ys)) (now (s .args .delays)) (now (s .args .js)) (c .before .before .before .before .before .before .before .order-sound .last .1 .1 .1 .0) (s .pre .ready .some) (c .before .before .before .before .before .before .before .order-sound .ensures) in
+    let o = order-taken (now (s .args .xs)) (now (s .args .ys)) (now (s .args .delays)) (now (s .args .js)) (c .before .before .before .before .before .before .before .order-sound .last .1 .1 .1 .0) (c .before .before .before .before .before .before .before .order-sound .ensures) in
     rw o (record { sound = order-sounds (s .pre .ready); room-u = s .pre .room-u; room-v = s .pre .room-v; room-w = s .pre .room-w })
 
 same-length : tie.Need-same-length
@@ -43,7 +43,7 @@ same-length-4 c = search needs
 returns : tie.Need-returns
 returns c =
     let s = c .before .before .before .before .before .before .before .before .before .before .before .before .before .before .before .before .before in
-    let o = order-taken (now (s .args .xs)) (now (s .args .ys)) (now (s .args .delays)) (now (s .args .js)) (c .before .before .before .before .before .before .before .before .before .before .before .before .order-sound .last .1 .1 .1 .0) (s .pre .ready .some) (c .before .before .before .before .before .before .before .before .before .before .before .before .order-sound .ensures) in
+    let o = order-taken (now (s .args .xs)) (now (s .args .ys)) (now (s .args .delays)) (now (s .args .js)) (c .before .before .before .before .before .before .before .before .before .before .before .before .order-sound .last .1 .1 .1 .0) (c .before .before .before .before .before .before .before .before .before .before .before .before .order-sound .ensures) in
     let e = rw o at (c .before .before .before .before .embed-sound .ensures) in
     record { sums = e .sums; writes-j = c .before .before .before .before .before .before .before .before .before .before .before .before .order-sound .ensures; writes-u = e .writes-u; writes-v = e .writes-v; writes-w = e .writes-w }
 

@@ -1,7 +1,8 @@
 use mathlib.Core.Path.{sym, ap, _∙_}
 use borrow.Author.Needs.{needs}
 use denote.Ref.{now}
-use Rattle.plane.specs.Bounds.{box, boxAnswer}
+use Rattle.plane.specs.Said.Said.{answered}
+use Rattle.plane.specs.Bounds.{boxAnswer}
 use Rattle.plane.proofs.Checks.{accepted, fitting}
 use Rattle.plane.proofs.Covering.{covers-box}
 use Rattle.plane.proofs.bounds.box_of.Statement.{statement}
@@ -30,7 +31,7 @@ returns-2 : tie.Need-returns-2
 unfolding boxAnswer
 returns-2 c =
     rw (sym (c .before .before .before .check-sinks .ensures) ∙ c .before .enum-told .given .1)
-    (ap box (covers-box _ _ _ (c .box-sound .ensures)))
+    (ap answered (covers-box _ _ _ (c .box-sound .ensures)))
 
 pub box-of-spec : {M : Type 1} → statement M
 box-of-spec =

@@ -5,7 +5,7 @@ use native.Mathlib.Omega.{arith}
 use lib.ListN.{length}
 use Rattle.lists.specs.Grow.{upTo}
 use Rattle.plane.specs.Sinks.{sinksAt}
-use Rattle.plane.specs.Covers.{Covers}
+use Rattle.measures.specs.Covers.{Covers}
 use Rattle.plane.proofs.Covering.{covers-more}
 use Rattle.plane.proofs.bounds.box_sound.Statement.{statement}
 use Rattle.plane.proofs.bounds.box_sound.Tie as tie

@@ -1,5 +1,5 @@
 use borrow.Author.Needs.{needs}
-use Rattle.plane.proofs.Numbers.{stored}
+use Rattle.measures.proofs.Numbers.{stored}
 use Rattle.plane.proofs.bounds.ends.Statement.{statement}
 use Rattle.plane.proofs.bounds.ends.Tie as tie
 

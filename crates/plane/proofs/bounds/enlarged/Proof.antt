@@ -4,10 +4,10 @@ use native.Mathlib.Omega.{arith}
 use borrow.Author.Tests.{not-true, not-false, ltb-false}
 use mir.Facts.{toZ-ofZ}
 use Rattle.lists.proofs.Tests.{and-both}
-use Rattle.plane.specs.Range.{inRange}
-use Rattle.plane.specs.Boxes.{hullOf, sinkBox}
+use Rattle.measures.specs.Range.{inRange}
+use Rattle.measures.specs.Boxes.{hullOf, sinkBox}
 use Rattle.plane.specs.Bounds.{bounds}
-use Rattle.plane.proofs.Numbers.{nearer}
+use Rattle.measures.proofs.Numbers.{nearer}
 use Rattle.plane.proofs.Unlifted.{hull-sink}
 use Rattle.plane.proofs.bounds.enlarged.Statement.{statement}
 use Rattle.plane.proofs.bounds.enlarged.Tie as tie

@@ -1,5 +1,7 @@
+use mathlib.Core.Path.{ap}
 use borrow.Author.Needs.{needs}
 use mir.Facts.{toZ-ofZ}
+use Rattle.plane.specs.Said.{toldCheck}
 use Rattle.plane.proofs.bounds.widened.Statement.{statement}
 use Rattle.plane.proofs.bounds.widened.Tie as tie
 
@@ -13,7 +15,7 @@ returns : tie.Need-returns
 returns c =
     let f = c .before .before .fits .x in
     let g = c .before .before .fits .y in
-    record { holds = simp toZ-ofZ at (c .before .enlarged .ensures); says = simp toZ-ofZ at (c .verdict-on .ensures) }
+    record { holds = simp toZ-ofZ at (c .before .enlarged .ensures); says = ap toldCheck (simp toZ-ofZ at (c .verdict-on .ensures)) }
 
 pub widened-spec : {M : Type 1} → statement M
 widened-spec = tie.close (tie.spec enlarged-requires verdict-on-requires returns)

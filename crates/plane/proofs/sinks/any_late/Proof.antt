@@ -5,7 +5,7 @@ use native.Mathlib.Omega.{arith}
 use borrow.Author.Needs.{needs}
 use lib.ListN.{length}
 use Rattle.lists.specs.First.{any}
-use Rattle.plane.specs.Range.{late}
+use Rattle.measures.specs.Range.{late}
 use Rattle.plane.specs.Sinks.{tooLate}
 use Rattle.plane.proofs.Checks.{late-more}
 use Rattle.plane.proofs.sinks.any_late.Statement.{statement}

@@ -6,8 +6,8 @@ use lib.Seq.{sets}
 use lib.Count.{ones}
 use borrow.Fn.Kinds.{In}
 use borrow.Fn.PlainCycle.{Measures, is, falls, and}
-use Rattle.search.specs.Square.{held}
-use Rattle.search.proofs.Numbering.{join-facts, join-write, joins-none}
+use Rattle.subsets.specs.Square.{held}
+use Rattle.subsets.proofs.Numbering.{join-facts, join-write, joins-none}
 use Rattle.search.proofs.kept.joins.Reads as joins
 use Rattle.search.proofs.kept.joins.Kinds as joins-kinds
 use Rattle.search.proofs.kept.+joins.Lts-joins as joins-lts

@@ -1,16 +1,15 @@
--- `search::kept` meets its contract.
 use mathlib.Core.Path.{_≡_, refl, sym, ap, subst, _∙_}
 use Prim.Native.Nat.{ℕ, _<_, _-_, _^_}
 use native.Mathlib.Omega.{arith}
 use borrow.Author.Needs.{needs}
 use lib.ListN.{getD}
 use lib.Bits.{bitAnd, and-le-l, and-self}
-use Rattle.search.specs.Kept.{keptPart}
-use Rattle.search.specs.Square.{held}
-use Rattle.search.specs.Subsets.{lowest}
-use Rattle.search.proofs.Digits.{Sub, low-le, self-lt, sub-and, sub-le}
-use Rattle.search.proofs.KeptParts.{found, kept-hit, kept-miss, kept-none, kept-start}
-use Rattle.search.proofs.Lowest.{beyond-lt}
+use Rattle.subsets.specs.Kept.{keptPart}
+use Rattle.subsets.specs.Square.{held}
+use Rattle.subsets.specs.Subsets.{lowest}
+use Rattle.subsets.proofs.Digits.{Sub, low-le, self-lt, sub-and, sub-le}
+use Rattle.subsets.proofs.KeptParts.{found, kept-hit, kept-miss, kept-none, kept-start}
+use Rattle.subsets.proofs.Lowest.{beyond-lt}
 use Rattle.search.proofs.kept.kept.Statement.{statement}
 use Rattle.search.proofs.kept.kept.Tie as tie
 

@@ -1,4 +1,3 @@
--- `search::node` meets its contract.
 use mathlib.Core.Bool.{Bool, cond}
 use mathlib.Core.Path.{ap, sym, _∙_}
 use Prim.Native.Nat.{_-_, _+_}
@@ -6,9 +5,9 @@ use native.Mathlib.Omega.{arith}
 use lib.Count.{ones}
 use borrow.Author.Tests.{lt-ltb, le-ltb}
 use borrow.Author.Needs.{needs}
-use Rattle.search.specs.Kept.{nodeOf}
-use Rattle.search.specs.Subsets.{lowest}
-use Rattle.search.proofs.Lowest.{lowest-lt}
+use Rattle.subsets.specs.Kept.{nodeOf}
+use Rattle.subsets.specs.Subsets.{lowest}
+use Rattle.subsets.proofs.Lowest.{lowest-lt}
 use Rattle.search.proofs.kept.node.Statement.{statement}
 use Rattle.search.proofs.kept.node.Tie as tie
 

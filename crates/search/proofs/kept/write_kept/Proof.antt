@@ -5,8 +5,8 @@ use lib.ListN.{length-take}
 use lib.Count.{ones, ones-ones}
 use lib.Pow.{pow-mono}
 use borrow.Author.Needs.{needs}
-use Rattle.search.specs.Square.{held}
-use Rattle.search.proofs.KeptJoins.{kept-written}
+use Rattle.subsets.specs.Square.{held}
+use Rattle.subsets.proofs.KeptJoins.{kept-written}
 use Rattle.search.proofs.kept.write_kept.Statement.{statement}
 use Rattle.search.proofs.kept.write_kept.Tie as tie
 

@@ -8,12 +8,12 @@ use lib.Pow.{pow-mono}
 use Rattle.lists.specs.Grow.{front}
 use Rattle.plane.specs.Sinks.{sinksAt}
 use Rattle.plane.proofs.Checks.{fitting}
-use Rattle.search.specs.Square.{held}
-use Rattle.search.specs.Subsets.{diam}
-use Rattle.search.specs.Table.{tableAfter}
-use Rattle.search.proofs.Agree.{table-agree}
+use Rattle.subsets.specs.Square.{held}
+use Rattle.subsets.specs.Subsets.{diam}
+use Rattle.subsets.specs.Table.{tableAfter}
+use Rattle.subsets.proofs.Agree.{table-agree}
 use Rattle.search.proofs.Finding.{diameters-are, filled-part}
-use Rattle.search.proofs.Small.{diam-small}
+use Rattle.subsets.proofs.Small.{diam-small}
 use borrow.Author.Needs.{needs}
 use Rattle.search.proofs.search.search_joins.Statement.{statement}
 use Rattle.search.proofs.search.search_joins.Tie as tie

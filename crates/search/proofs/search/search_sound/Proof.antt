@@ -3,7 +3,7 @@ use denote.Ref.{now}
 use Prim.Native.Nat.{_*_, _-_}
 use lib.ListN.{length, take}
 use Rattle.plane.specs.Sinks.{sinksAt}
-use Rattle.embedding.proofs.Bounded.{sound}
+use Rattle.orders.proofs.Bounded.{sound}
 use Rattle.search.specs.Searching.{joinsFound}
 use Rattle.search.proofs.Finding.{found-ordered, found-part, found-is}
 use borrow.Author.Needs.{needs}

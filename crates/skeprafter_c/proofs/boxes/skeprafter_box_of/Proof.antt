@@ -1,7 +1,6 @@
 use borrow.Author.Needs.{needs}
 use mathlib.Core.Path.{sym, ap, refl, _∙_}
 use Rattle.plane.specs.Bounds.{seen}
-use Rattle.skeprafter_c.specs.Kept.{held}
 use Rattle.skeprafter_c.proofs.boxes.skeprafter_box_of.Statement.{statement}
 use Rattle.skeprafter_c.proofs.boxes.skeprafter_box_of.Tie as tie
 
@@ -23,12 +22,15 @@ of-refusal-requires c κs = search needs
 returns : tie.Need-returns
 returns c =
     let e = sym (c .before .before .before .before .before .box-of .ensures) ∙ ap seen (c .before .before .before .answer .given .1) in
-    rw e (ap held (c .before .numbers .ensures), refl)
+    record {
+      keeps = rw e (rw (c .before .numbers .ensures) (record { four = refl; holds = refl }));
+      says = rw e refl;
+    }
 
 returns-2 : tie.Need-returns-2
 returns-2 c =
     let e = sym (c .before .before .before .before .box-of .ensures) ∙ ap seen (c .before .before .answer2 .given .1) in
-    rw e (refl, c .of-refusal .ensures)
+    record { keeps = rw e refl; says = rw e (c .of-refusal .ensures) }
 
 pub skeprafter-box-of-spec : {M : Type 1} → statement M
 skeprafter-box-of-spec =

@@ -4,6 +4,7 @@ use mir.Facts.{toZ-ofZ}
 use mir.Syntax.{w64}
 use mir.Val.{SFits}
 use Rattle.plane.specs.Bounds.{bounds}
+use Rattle.skeprafter_c.specs.Kept.{endsOf}
 use Rattle.skeprafter_c.proofs.boxes.skeprafter_ends.Statement.{statement}
 use Rattle.skeprafter_c.proofs.boxes.skeprafter_ends.Tie as tie
 
@@ -21,7 +22,7 @@ returns c =
     let hu : SFits w64 (e .«greatest_u») = record { sfits = g .1 .0 .1 } in
     let lv : SFits w64 (e .«least_v») = record { sfits = g .1 .1 .0 .1 } in
     let hv : SFits w64 (e .«greatest_v») = record { sfits = g .1 .1 .1 .0 .1 } in
-    simp toZ-ofZ (c .before .before .ends .ensures ∙ ap bounds (c .before .before .before .of-numbers .ensures))
+    simp toZ-ofZ (ap endsOf (c .before .before .ends .ensures ∙ ap bounds (c .before .before .before .of-numbers .ensures)))
 
 pub skeprafter-ends-spec : {M : Type 1} → statement M
 skeprafter-ends-spec = tie.close (tie.spec of-numbers-requires ends-requires returns)

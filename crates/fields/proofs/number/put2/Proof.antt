@@ -1,0 +1,39 @@
+use Prim.Native.Nat.{_/_, _%_}
+use mathlib.Core.Path.{_≡_}
+use borrow.Author.Needs.{needs}
+use native.Mathlib.Numerals.{add-one}
+use native.Mathlib.Omega.{arith}
+use lib.ListN.{length-set}
+use Rattle.fields.specs.Bytes.{big}
+use Rattle.fields.proofs.number.put2.Statement.{statement}
+use Rattle.fields.proofs.number.put2.Tie as tie
+
+cast-out : tie.Need-cast-out
+cast-out c = search needs
+
+slice-write-out : tie.Need-slice-write-out
+slice-write-out c = search needs
+
+cast-out-2 : tie.Need-cast-out-2
+cast-out-2 c = search needs
+
+add-out : tie.Need-add-out
+add-out c = search needs
+
+slice-write-out-2 : tie.Need-slice-write-out-2
+slice-write-out-2 c = simp length-set (omega arith)
+
+same-length : tie.Need-same-length
+same-length c = search needs
+
+returns : tie.Need-returns
+unfolding big
+returns c =
+    let a = c .args in
+    let e : a .n / 256 % 256 ≡ a .n / 256 = omega arith in
+    rw (add-one, e)
+
+pub put2-spec : {M : Type 1} → statement M
+put2-spec =
+    tie.close
+    (tie.spec cast-out slice-write-out cast-out-2 add-out slice-write-out-2 same-length returns)

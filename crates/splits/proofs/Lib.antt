@@ -1,0 +1,2 @@
+-- The laws of examining splits four by four.
+pub mod Fours

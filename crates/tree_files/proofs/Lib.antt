@@ -1,0 +1,5 @@
+-- The laws of tree files.
+pub mod TreeAnswers
+pub mod TreeLengths
+pub mod TreeTrip
+pub mod TreeCalls

@@ -1,0 +1,2 @@
+// The house files of trees.
+pub mod tree_file;
