@@ -1,4 +1,4 @@
--- What an accepted call is worth: the lists describe a zero_skew tree, joined in the order given, whose wire is the total; no zero_skew tree with that joining order is shorter; and it is an outcome of deferred-merge embedding.
+-- What an accepted call is worth: the lists describe a zero-skew tree, joined in the order given, whose wire is the total; no zero-skew tree with that joining order is shorter; and it is an outcome of deferred-merge embedding.
 use mathlib.Core.Path.{◌≡◌, refl, ap, ◌∙◌}
 use mathlib.Core.List.{List}
 use Prim.Native.Nat.{ℕ, ◌-◌, ◌*◌, ◌≤◌, ◌<◌}

@@ -31,7 +31,7 @@ described n js us vs ws = tree_at n js us vs ws (2 * n - 2)
 
 -- What an accepted call is worth:
 pub record Level (s : Sinks) (js : List ℕ) (us vs : List ℤ) (ws : List ℕ) (total : ℕ) : Type 0 where
-  -- a zero_skew tree over the sinks, its places and lengths in quarters of a grid unit
+  -- a zero-skew tree over the sinks, its places and lengths in quarters of a grid unit
   pub zero_skew : ZeroSkew s 4 (described s.n js us vs ws)
   -- "Every path from root to sink is d(root) half units"
   pub paths : (p : ℕ) → Memᴰ p (arrivals s 4 (described s.n js us vs ws)) → p ≡ 2 * d s js (2 * s.n - 2)
@@ -40,7 +40,7 @@ pub record Level (s : Sinks) (js : List ℕ) (us vs : List ℤ) (ws : List ℕ) 
   -- its wire is the total, and so is the sum of the wires
   pub long : wire (described s.n js us vs ws) ≡ 2 * total
   pub sums : sum_to (λ k. get_or ws k 0) (2 * s.n - 1) ≡ total
-  -- no zero_skew tree that joins the same sets, at whatever fineness k, has less wire
+  -- no zero-skew tree that joins the same sets, at whatever fineness k, has less wire
   pub least : (k : ℕ) (t : Tree) → ZeroSkew s k t → Alike (order t) (node s.n js (2 * s.n - 2)) → k * total ≤ 2 * wire t
   -- it is an outcome of deferred-merge embedding
   pub deferred : DME s 4 (node s.n js (2 * s.n - 2)) (described s.n js us vs ws)

@@ -11,7 +11,7 @@ use orders::{check, nodes};
 use plane::refusal::{Checked, Refusal};
 
 // What embedding comes to: the total, or a refusal.
-#[derive(Drop)]
+#[derive(Clone, Copy)]
 pub enum Embedded {
     Tree(u32),
     NoTree(Refusal),

@@ -1,4 +1,6 @@
-// Embedding a joining order: places top_down, wires, and the call.
+// Embedding a joining order: places top-down, wires, and the call.
+#![tactic(auto)]
+
 pub mod embed;
 mod places;
 pub mod room;

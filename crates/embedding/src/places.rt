@@ -1,4 +1,4 @@
-// The places of all nodes, top_down.
+// The places of all nodes, top-down.
 ghost use Rattle.std.specs.Prelude.{◌≡◌, ◌-◌, ◌*◌, ◌≤◌, length};
 ghost use Rattle.embedding.specs.Places.{Sized, AllPlaced, Low, spot_at, SpotHeld, Has, Placeable, PutsSpot, PutsDown, PutsSinks};
 ghost use Rattle.measures.specs.Spots.{root_of, nearest_of};

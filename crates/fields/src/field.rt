@@ -8,7 +8,7 @@ use crate::number;
 use plane::refusal::{Checked, Refusal};
 
 // What stands where a field is due: a field that ends before a byte, or the offset of number 8.
-#[derive(Drop)]
+#[derive(Clone, Copy)]
 pub enum Field {
     Until(usize),
     Bad(usize),

@@ -1,1 +1,2 @@
 // What loops over lists share: definitions and laws, and no code.
+#![tactic(auto)]

@@ -7,7 +7,7 @@ use crate::measure;
 use crate::measure::Tilted;
 
 // The least and the greatest u and v of a set of sinks.
-#[derive(Drop)]
+#[derive(Clone, Copy)]
 pub struct Box {
     pub lu: Tilted,
     pub hu: Tilted,
@@ -51,6 +51,7 @@ pub fn hull(a: Box, b: Box) -> Box
 }
 
 // The larger of the two widths.
+#[tactic(auto, unfolding(crate::specs::Boxes::diam_of))]
 pub fn diameter(b: Box) -> u32
     ensures { result ≡ diam_of b }
 {
@@ -60,6 +61,7 @@ pub fn diameter(b: Box) -> u32
 }
 
 // The same, where the ends of both axes stand in order: a plain difference each.
+#[tactic(auto, unfolding(crate::specs::Boxes::diam_of))]
 pub fn breadth(b: Box) -> u32
     requires { InOrder b }
     ensures { result ≡ diam_of b }

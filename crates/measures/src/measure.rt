@@ -5,15 +5,15 @@ ghost use Rattle.measures.specs.Range.{in_range, late, Central, Brief, equal};
 ghost use Rattle.measures.specs.Measures.{kept_as, grid_of, u_of, v_of, less_of, more_of, least_of, greatest_of, gap, low_of, high_of, lower_of, higher_of, near_of, lowered, raised, unlifted};
 
 // A coordinate x or y, in grid units.
-#[derive(Drop)]
+#[derive(Clone, Copy)]
 pub struct Grid(u32);
 
 // A coordinate u or v, in grid units.
-#[derive(Drop)]
+#[derive(Clone, Copy)]
 pub struct Tilted(u32);
 
 // A coordinate U or V, in half grid units.
-#[derive(Drop)]
+#[derive(Clone, Copy)]
 pub struct Doubled(u32);
 
 // A length, wide enough to be added up.

@@ -9,7 +9,7 @@ use crate::measure;
 use crate::measure::{Doubled, Tilted};
 
 // A place, in doubled coordinates.
-#[derive(Drop)]
+#[derive(Clone, Copy)]
 pub struct Spot {
     pub u: Doubled,
     pub v: Doubled,

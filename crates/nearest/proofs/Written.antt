@@ -1,4 +1,4 @@
--- What the lent buffers hold after an accepted call, from its contract alone: pairs by the rule, and with places and wires a zero_skew tree; and how large its total is.
+-- What the lent buffers hold after an accepted call, from its contract alone: pairs by the rule, and with places and wires a zero-skew tree; and how large its total is.
 use mathlib.Core.Path.{◌≡◌}
 use mathlib.Core.List.{List}
 use Prim.Native.Nat.{ℕ, ◌-◌, ◌*◌, ◌≤◌, ◌<◌}

@@ -1,4 +1,4 @@
--- What `embed_nearest` gives is what `embed` gives for the order of least diameter: a zero_skew tree, and no tree with its joining order has less wire.
+-- What `embed_nearest` gives is what `embed` gives for the order of least diameter: a zero-skew tree, and no tree with its joining order has less wire.
 use mathlib.Core.Path.{◌≡◌, ap}
 use mathlib.Core.List.{List}
 use Prim.Native.Nat.{ℕ, ◌-◌, ◌*◌}

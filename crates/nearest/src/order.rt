@@ -15,7 +15,7 @@ use plane::refusal::{Checked, Refusal};
 use plane::sinks;
 
 // What joining by least diameter comes to.
-#[derive(Drop)]
+#[derive(Clone, Copy)]
 pub enum Joined {
     Order,
     NoOrder(Refusal),

@@ -1,4 +1,4 @@
-// The nodes of a sound joining order, bottom_up: their boxes, diameters and parents.
+// The nodes of a sound joining order, bottom-up: their boxes, diameters and parents.
 ghost use Rattle.std.specs.Prelude.{◌≡◌, ◌+◌, ◌-◌, ◌*◌, ◌<◌, length, set};
 ghost use Rattle.plane.specs.Sinks.{sinks_at};
 ghost use Rattle.orders.specs.Sound.{Ordered, Sound};
@@ -58,7 +58,7 @@ fn put_join(js: &[u16], n: usize, i: usize, bs: &mut [u32], ds: &mut [u32], ps: 
     d
 }
 
-// All joins, bottom_up, and the sum of their diameters.
+// All joins, bottom-up, and the sum of their diameters.
 fn put_joins(js: &[u16], n: usize, bs: &mut [u32], ds: &mut [u32], ps: &mut [u16]) -> u64
     requires { Ordered n js.now × Up n js.now 0 bs.old ds.old ps.old }
     ensures { PutsJoins n js.now (n - 1) bs.old result bs.new ds.new ps.new }

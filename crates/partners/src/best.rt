@@ -9,7 +9,7 @@ use crate::pair::Pair;
 use crate::{live, lowest, rows};
 
 // A row, and where its partner stands among the live nodes.
-#[derive(Drop)]
+#[derive(Clone, Copy)]
 pub struct Choice {
     pub row: usize,
     pub with: usize,

@@ -14,21 +14,21 @@ use measures::boxes::Box;
 use measures::{boxes, measure};
 
 // What the box of all sinks comes to.
-#[derive(Drop)]
+#[derive(Clone, Copy)]
 pub enum Boxed {
     Of(Box),
     NoBox(Refusal),
 }
 
 // A held box after one more sink, and what was said of the sink.
-#[derive(Drop)]
+#[derive(Clone, Copy)]
 pub struct Widening {
     pub held: Box,
     pub said: Checked,
 }
 
 // The four numbers of a box, with sign.
-#[derive(Drop)]
+#[derive(Clone, Copy)]
 pub struct Extent {
     pub least_u: i64,
     pub greatest_u: i64,

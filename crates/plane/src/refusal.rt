@@ -3,7 +3,7 @@ ghost use Rattle.std.specs.Prelude.{◌≡◌};
 ghost use Rattle.plane.specs.Refusals.{number, place};
 
 // The refusals of document 01, in its order. Number 5 is withdrawn: no refusal has it.
-#[derive(Drop)]
+#[derive(Clone, Copy)]
 pub enum Refusal {
     // 1: the lists of x, y and delays differ in length.
     Lists,
@@ -28,14 +28,14 @@ pub enum Refusal {
 }
 
 // The place that a refusal tells of: none, or a number, of which 0 is one.
-#[derive(Drop)]
+#[derive(Clone, Copy)]
 pub enum Place {
     None,
     At(usize),
 }
 
 // What a check says.
-#[derive(Drop)]
+#[derive(Clone, Copy)]
 pub enum Checked {
     Fine,
     Refused(Refusal),

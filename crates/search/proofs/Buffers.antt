@@ -57,7 +57,7 @@ module _ (xs ys : List ℤ) (delays : List ℕ) (budget : ℕ) (table js : List 
   pairs_are =
       found_held xs ys delays budget prepared.ranged prepared.some prepared.few js j call.writes_js
 
-  -- at every budget they are a zero_skew tree over the sinks, joined by the pairs, of the wire that is said
+  -- at every budget they are a zero-skew tree over the sinks, joined by the pairs, of the wire that is said
   pub zero_skew_tree : Level here (take (2 * (length xs - 1)) j) u' v' w f.total
   zero_skew_tree =
       rw pairs_are

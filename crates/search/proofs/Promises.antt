@@ -1,5 +1,5 @@
--- What the search promises beyond its equations, about the same definitions: a zero_skew tree at every budget, no more wire from a larger one, nothing changed from F(n) on, proven exactly
--- from F(n) on, and NO zero_skew tree shorter than a proven one.
+-- What the search promises beyond its equations, about the same definitions: a zero-skew tree at every budget, no more wire from a larger one, nothing changed from F(n) on, proven exactly
+-- from F(n) on, and NO zero-skew tree shorter than a proven one.
 use mathlib.Core.Path.{◌≡◌, refl, sym, ap, subst, ◌∙◌}
 use mathlib.Core.Logic.{◌⊎◌, inl, inr, ⊎_elim}
 use mathlib.Core.Bool.{true}

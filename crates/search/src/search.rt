@@ -12,8 +12,8 @@ use plane::refusal::{Checked, Refusal};
 use splits::fill;
 use subsets::{square, subset};
 
-// A tree: its total in half grid units, how many splits were examined, and whether no zero_skew tree is shorter.
-#[derive(Drop)]
+// A tree: its total in half grid units, how many splits were examined, and whether no zero-skew tree is shorter.
+#[derive(Clone, Copy)]
 pub struct Found {
     pub total: u32,
     pub steps: u64,
@@ -21,7 +21,7 @@ pub struct Found {
 }
 
 // What the search comes to.
-#[derive(Drop)]
+#[derive(Clone, Copy)]
 pub enum Searched {
     Tree(Found),
     NoTree(Refusal),

@@ -1,4 +1,6 @@
 // The library's face: all that a caller uses, and nothing else. No function here has a condition on its caller.
+#![tactic(auto)]
+
 pub use embedding::embed::{Embedded, embed};
 pub use house::answer::{Reading, Written};
 pub use house::joined_file::{read_joined, write_joined};

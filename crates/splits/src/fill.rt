@@ -98,7 +98,7 @@ fn examine_all(table: &[u32], d: u32, s: u32) -> u32
 }
 
 // The least that examined splits come to, and what is left of a budget.
-#[derive(Drop)]
+#[derive(Clone, Copy)]
 pub struct Examined {
     pub least: u32,
     pub left: u64,

@@ -1,4 +1,4 @@
--- No joining order has a smaller sum of diameters than the finished table says, the kept splits have that sum, and so NO zero_skew tree is shorter than theirs.
+-- No joining order has a smaller sum of diameters than the finished table says, the kept splits have that sum, and so NO zero-skew tree is shorter than theirs.
 use mathlib.Core.Path.{◌≡◌, refl, sym, ap, subst, ◌∙◌}
 use mathlib.Core.Logic.{◌⊎◌, inl, inr}
 use mathlib.Core.List.{List, ◌++◌}

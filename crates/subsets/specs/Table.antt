@@ -8,7 +8,7 @@ use Rattle.subsets.specs.Subsets.{rising, splits}
 abbrev pub cost_of : (ℕ → ℕ) → List ℕ → ℕ → ℕ → ℕ
 cost_of d t m a = d m + get_or t a 0 + get_or t (m - a) 0
 
--- "Examining one split is one step": of the subset p .0, into p.1 and the rest. The entry becomes the least so far.
+-- "Examining one split is one step": of the subset p.0, into p.1 and the rest. The entry becomes the least so far.
 abbrev pub step_of : (ℕ → ℕ) → List ℕ → ℕ × ℕ → List ℕ
 step_of d t p = set t p.0 (min (get_or t p.0 0) (cost_of d t p.0 p.1))
 

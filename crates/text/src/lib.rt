@@ -1,2 +1,4 @@
 // Numbers and words as bytes of text, written into a lent buffer.
+#![tactic(auto)]
+
 pub mod write;

@@ -1,5 +1,7 @@
 // The tree program: reads a sink file from standard input, and writes the lines of its tree to standard output.
 // The language has no exit status: where standard output does not take the whole text, a line on standard error says so.
+#![tactic(auto)]
+
 use libc::{STDERR_FILENO, STDIN_FILENO, STDOUT_FILENO};
 use printing::program;
 

@@ -1,2 +1,4 @@
 // The house files of trees.
+#![tactic(auto)]
+
 pub mod tree_file;

@@ -1,7 +1,7 @@
 -- "By induction all merging segments are Manhattan arcs" (002, section I).
 use mathlib.Core.Path.{◌≡◌}
 use mathlib.Core.Logic.{◌⊎◌, inl, inr, ⊎_elim}
-use mathlib.Core.List.{List, ◌∷◌, Memᴰ}
+use mathlib.Core.List.{[], List, ◌∷◌, Memᴰ}
 use Prim.Native.Nat.{ℕ}
 use native.Mathlib.Omega.{arith}
 use lib.IntN.{ℤ}
@@ -30,6 +30,7 @@ module _ (s : Sinks) where
   single_value i l = ⊎_elim (λ w. inl (thin_at (u s) (i ∷ l) (low_high s (u s) i l) w)) (λ w. inr (thin_at (v s) (i ∷ l) (low_high s (v s) i l) w)) (thin_one i l)
 
   arc : (l : List ℕ) (i : ℕ) → Memᴰ i l → Arc (segment s l)
+  arc [] i m = elim m [ ]
   arc (h ∷ l) i m = record {
     some = record { some_u = to_le _ _ (some_along s (u s) (h ∷ l) (wide_u s (h ∷ l))); some_v = to_le _ _ (some_along s (v s) (h ∷ l) (wide_v s (h ∷ l))) };
     thin = single_value h l;

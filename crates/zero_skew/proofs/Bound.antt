@@ -1,4 +1,4 @@
--- No zero_skew tree has less wire than its joining order's diameters say.
+-- No zero-skew tree has less wire than its joining order's diameters say.
 use mathlib.Core.Logic.{⊎_elim}
 use mathlib.Core.List.Memᴰ
 use mathlib.Core.List.{List, [], ◌∷◌, ◌++◌, Memᴰ}

@@ -21,5 +21,6 @@ count_in i (j ∷ l) = choice (λ c. 0 < c + count i l → Memᴰ i (j ∷ l)) (
 
 pub in_count : (i : ℕ) (l : List ℕ) → Memᴰ i l → 0 < count i l
 unfolding count
+in_count i [] x' = elim x' [ ]
 in_count i (j ∷ l) (Memᴰ.head e) = rw (eq-eqb i j e) (omega arith)
 in_count i (j ∷ l) (Memᴰ.tail m) = omega (arith, in_count i l m)

@@ -1,4 +1,4 @@
--- Document 01's embedding is deferred-merge embedding, and the bottom_up phase has no other outcome.
+-- Document 01's embedding is deferred-merge embedding, and the bottom-up phase has no other outcome.
 use mathlib.Core.Path.{◌≡◌, refl, sym, ◌∙◌, ap}
 use mathlib.Core.List.Memᴰ
 use mathlib.Core.List.{List, [], ◌∷◌, ◌++◌, Memᴰ}
@@ -36,6 +36,8 @@ at_quarters a U V' h = record { by_u = four_times a.along_u U _ h.by_u (half_of_
 
 module _ (s : Sinks) where
   joined : (a b : List ℕ) (i j : ℕ) → Memᴰ i a → Memᴰ j b → trr (diameter s (a ++ b) - diameter s a) (segment s a) ∩ trr (diameter s (a ++ b) - diameter s b) (segment s b) ≡ segment s (a ++ b)
+  joined [] b i j mi mj = elim mi [ ]
+  joined (h ∷ l) [] i j mi mj = elim mj [ ]
   joined (h ∷ l) (g ∷ m) i j mi mj = merged s h l g m
 
   -- ---- a sink: its segment is its own place

@@ -1,7 +1,7 @@
 -- The edge lengths of a join: the least that balance and reach are unique, those of 000, section II.B, and document 01's wires.
 use mathlib.Core.Path.{◌≡◌, sym, ◌∙◌, ap}
 use mathlib.Core.Logic.{◌⊎◌, ⊎_elim}
-use mathlib.Core.List.{List, ◌∷◌, ◌++◌, Memᴰ}
+use mathlib.Core.List.{[], List, ◌∷◌, ◌++◌, Memᴰ}
 use Prim.Native.Nat.{ℕ, ◌+◌, ◌-◌, ◌*◌, ◌≤◌}
 use native.Mathlib.Nat.{mul-add, mul-le-mul_left}
 use native.Mathlib.Omega.{arith}
@@ -60,6 +60,8 @@ lengths_of_cases A p B q e f pq bal near far-off =
 module _ (s : Sinks) where
   -- document 01's wires are the edge lengths of a join
   pub edges : (a b : List ℕ) (i j : ℕ) → Memᴰ i a → Memᴰ j b → EdgeLengths (segment s a) (diameter s a) (segment s b) (diameter s b) (diameter s (a ++ b) - diameter s a) (diameter s (a ++ b) - diameter s b)
+  edges [] b i j mi mj = elim mi [ ]
+  edges (h ∷ l) [] i j mi mj = elim mj [ ]
   edges (h ∷ l) (g ∷ m) i j mi mj =
       let da : diameter s (h ∷ l) ≤ diameter s ((h ∷ l) ++ (g ∷ m)) = under_l s (h ∷ l) (g ∷ m) in
       let db : diameter s (g ∷ m) ≤ diameter s ((h ∷ l) ++ (g ∷ m)) = under_r s (h ∷ l) (g ∷ m) in

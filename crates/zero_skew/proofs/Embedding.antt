@@ -1,4 +1,4 @@
--- Document 01's embedding of a joining order is a zero_skew tree on the grid of quarters, with document 01's paths and total: it is an outcome of deferred-merge embedding.
+-- Document 01's embedding of a joining order is a zero-skew tree on the grid of quarters, with document 01's paths and total: it is an outcome of deferred-merge embedding.
 use mathlib.Core.Path.{◌≡◌}
 use mathlib.Core.List.{Memᴰ}
 use Prim.Native.Nat.{ℕ, ◌*◌}

@@ -1,4 +1,4 @@
--- Regions that are counted in finer units: the top_down phase is never stuck, at whatever fineness.
+-- Regions that are counted in finer units: the top-down phase is never stuck, at whatever fineness.
 use mathlib.Core.Path.{◌≡◌, ap}
 use Prim.Native.Nat.{ℕ, ◌+◌, ◌*◌, ◌≤◌}
 use native.Mathlib.Nat.{mul-add, mul-le-mul_left}

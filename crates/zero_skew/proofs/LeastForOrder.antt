@@ -1,4 +1,4 @@
--- No zero_skew tree, at whatever fineness, has less wire than a joining order's total, if its own sum of diameters is no smaller; so none with that joining order has.
+-- No zero-skew tree, at whatever fineness, has less wire than a joining order's total, if its own sum of diameters is no smaller; so none with that joining order has.
 use mathlib.Core.Path.{◌≡◌, refl, ap}
 use mathlib.Core.Logic.{⊎_elim}
 use mathlib.Core.List.{List}

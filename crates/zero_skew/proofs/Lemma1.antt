@@ -21,6 +21,8 @@ use Rattle.zero_skew.proofs.Whole.{◌⊑◌, tilt, larger_l, larger_r, larger_o
 module _ (f : ℕ → ℤ) where
   pub greatest_over : (l : List ℕ) (j : ℕ) → Memᴰ j l → f j ⊑ greatest f l
   unfolding greatest
+  greatest_over [] j x' = elim x' [ ]
+  greatest_over (i ∷ []) j (Memᴰ.tail m) = elim m [ ]
   greatest_over (i ∷ []) j (Memᴰ.head e) = rw e (omega arith)
   greatest_over (i ∷ (h ∷ l)) j (Memᴰ.head e) = rw e (larger_l (f i) (greatest f (h ∷ l)))
   greatest_over (i ∷ (h ∷ l)) j (Memᴰ.tail m) =
@@ -28,6 +30,8 @@ module _ (f : ℕ → ℤ) where
 
   pub least_under : (l : List ℕ) (j : ℕ) → Memᴰ j l → least f l ⊑ f j
   unfolding least
+  least_under [] j x' = elim x' [ ]
+  least_under (i ∷ []) j (Memᴰ.tail m) = elim m [ ]
   least_under (i ∷ []) j (Memᴰ.head e) = rw e (omega arith)
   least_under (i ∷ (h ∷ l)) j (Memᴰ.head e) = rw e (smaller_l (f i) (least f (h ∷ l)))
   least_under (i ∷ (h ∷ l)) j (Memᴰ.tail m) =

@@ -1,4 +1,4 @@
--- Whatever the top_down phase chooses, the tree has no skew, its paths are the diameter of all the sinks, and its wire is document 01's total.
+-- Whatever the top-down phase chooses, the tree has no skew, its paths are the diameter of all the sinks, and its wire is document 01's total.
 use mathlib.Core.Path.{◌≡◌, sym, ◌∙◌, ap}
 use mathlib.Core.List.{Memᴰ}
 use Prim.Native.Nat.{ℕ, ◌+◌, ◌*◌}
@@ -119,7 +119,7 @@ module _ (s : Sinks) where
             no_other = λ i p. rw le (over.no_other i p);
           })
 
-  -- ---- the length that the bottom_up phase finds is document 01's total
+  -- ---- the length that the bottom-up phase finds is document 01's total
   wired_cost : (o : Order) → cost (wired s o) + 2 * waits s (sinks_of o) ≡ sums s o + diameter s (sinks_of o)
   unfolding cost wired waits sinks_of sums
   wired_cost (one i) = omega (arith, diam_one s i)

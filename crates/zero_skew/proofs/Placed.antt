@@ -61,6 +61,7 @@ module _ (s : Sinks) where
       (omega (arith, of_le z (upto s c m) on.upto_hi, diam_within s (i ∷ l) m below, least_within (λ j. c j -ℤ pos (s.wait j)) i l m below, upto_is (low s c (i ∷ l)) (diameter s (i ∷ l)), upto_is (low s c m) (diameter s m)))
 
   near_segment : (l m : List ℕ) (i : ℕ) (U V' : ℤ) → Memᴰ i l → ((j : ℕ) → Memᴰ j l → Memᴰ j m) → Inside (segment s m) U V' → dist (quarters U V') (quarters (placed s (u s) l U) (placed s (v s) l V')) ≤ 2 * (diameter s m - diameter s l)
+  near_segment [] m i U V' some below on = elim some [ ]
   near_segment (h ∷ l) m i U V' some below on =
       quarters_near U (placed s (u s) (h ∷ l) U) V' (placed s (v s) (h ∷ l) V') (diameter s m - diameter s (h ∷ l))
       (step (u s) h l m U below on.by_u) (step (v s) h l m V' below on.by_v)

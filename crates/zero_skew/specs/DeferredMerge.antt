@@ -37,7 +37,7 @@ pub record EdgeLengths (A : Region) (p : ℕ) (B : Region) (q : ℕ) (e f : ℕ)
   pub merges : Merges 1 A p B q e f
   pub least : (k x y : ℕ) → Merges k A p B q x y → k * (e + f) ≤ x + y
 
--- the bottom_up phase, Build_Tree_of_Segments: "for each node v in G (bottom-up order) .. Calculate_Edge_Lengths"
+-- the bottom-up phase, Build_Tree_of_Segments: "for each node v in G (bottom-up order) .. Calculate_Edge_Lengths"
 abbrev pub BottomUp : Sinks → Segments → Type 0
 BottomUp s (sink i) = Unit {0}
 BottomUp s (merge e a f b) = BottomUp s a × BottomUp s b × EdgeLengths (ms s a) (path s a) (ms s b) (path s b) e f
@@ -46,7 +46,7 @@ BottomUp s (merge e a f b) = BottomUp s a × BottomUp s b × EdgeLengths (ms s a
 abbrev pub At : ℕ → Region → Place → Type 0
 At k a p = Inside (finer k a) (pos 2 *ℤ (p.x +ℤ p.y)) (pos 2 *ℤ (p.x -ℤ p.y))
 
--- The top_down phase, Find_Exact_Placements: "if v is the root node, then DME selects any point in ms(v) to be l(v); or if v is an internal node other than the root, .. any point in ms(v)
+-- The top-down phase, Find_Exact_Placements: "if v is the root node, then DME selects any point in ms(v) to be l(v); or if v is an internal node other than the root, .. any point in ms(v)
 -- that is at distance |e_v| or less from the placement of v's parent". Its wire has the length |e_v|. Places and wires of the tree count 1/k grid unit, for any k.
 abbrev pub TopDown : Sinks → ℕ → Segments → Tree → Type 0
 TopDown s k (sink i) (leaf j p) = (j ≡ i) × At k (ms s (sink i)) p

@@ -1,4 +1,4 @@
--- Document 01, "Embedding a joining order": clock trees, and what a zero_skew tree is. "Places and lengths are whole multiples of 1/k grid unit": a number of a tree counts so many.
+-- Document 01, "Embedding a joining order": clock trees, and what a zero-skew tree is. "Places and lengths are whole multiples of 1/k grid unit": a number of a tree counts so many.
 use Rattle.std.specs.Prelude.{◌≡◌, cond, ℕ, ◌+◌, ◌*◌, ◌≤◌, ◌<◌, eqb}
 use mathlib.Core.List.{List, [], ◌∷◌, ◌++◌, map, Memᴰ}
 use Rattle.zero_skew.specs.Plane.{Place, Sinks, dist, scaled}

@@ -1,1 +1,2 @@
 // The mathematics of clock trees without skew: definitions and laws, and no code.
+#![tactic(auto)]
