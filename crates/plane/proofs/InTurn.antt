@@ -32,6 +32,8 @@ module _ (xs ys : List ℤ) (delays : List ℕ) where
   box_one i = refl
 
   both_true : (a b : Bool) → T a → T b → (a && b) ≡ true
+  both_true mathlib.Core.Bool.false b p q = elim p [ ]
+  both_true true mathlib.Core.Bool.false p q = elim q [ ]
   both_true true true p q = refl
 
   widens : (r : Ranged xs ys delays) (b : Bounds) (i : ℕ) → i < length xs → hull b (sink_bounds (x i) (y i) (w i)) ≡ widened_by b (x i) (y i) (w i)

@@ -7,16 +7,16 @@ use Rattle.plane.proofs.bounds.box_of.Goals as goal
 
 pub returns-in-Refused : goal.returns-in-Refused
 unfolding box_answer
-returns-in-Refused c = rw (sym c.check_sinks-said.ensures ∙ c.said-1.given.1)
+returns-in-Refused c = rw (sym c.check_sinks-said.ensures ∙ c.in-Refused.is)
 
 pub box_sound-requires : goal.box_sound-requires
 box_sound-requires c =
     let a = c.args in
-    let m = accepted 512 a.xs.now a.ys.now a.delays.now (sym c.check_sinks-said.ensures ∙ c.enum_told-1.given.1) in
+    let m = accepted 512 a.xs.now a.ys.now a.delays.now (sym c.check_sinks-said.ensures ∙ c.in_default.is) in
     (fitting m.ranged, m.some)
 
 pub returns : goal.returns
 unfolding box_answer
 returns c =
-    rw (sym c.check_sinks-said.ensures ∙ c.enum_told-1.given.1)
+    rw (sym c.check_sinks-said.ensures ∙ c.in_default.is)
     (ap answered (covers_box _ _ _ c.box_sound.ensures))

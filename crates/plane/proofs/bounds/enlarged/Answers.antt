@@ -1,6 +1,6 @@
 use mathlib.Core.Path.{◌≡◌, sym, ap, ◌∙◌}
 use native.Mathlib.Omega.{arith}
-use borrow.Author.Tests.{not-true, not-false, ltb-false}
+use borrow.Author.Tests.{not-false, ltb-false}
 use mir.Facts.{to_z-of_z}
 use Rattle.lists.proofs.Tests.{and_both}
 use Rattle.measures.specs.Range.{in_range}
@@ -14,20 +14,20 @@ pub returns-then-not-inside : goal.returns-then-not-inside
 returns-then-not-inside c =
     let f = c.ranges.x in
     let g = c.ranges.y in
-    rw (sym (simp to_z-of_z at c.inside.ensures) ∙ not-true _ c.if-not-inside.true)
+    rw (sym (simp to_z-of_z at c.inside.ensures) ∙ c.if-not-inside.true)
 
 pub returns-then-is_late : goal.returns-then-is_late
 returns-then-is_late c =
     let f = c.ranges.x in
     let g = c.ranges.y in
-    rw (sym (simp to_z-of_z at c.inside.ensures) ∙ not-false _ c.if-not-inside.false, sym c.is_late.ensures ∙ c.if-is_late.true)
+    rw (sym (simp to_z-of_z at c.inside.ensures) ∙ c.if-not-inside.false, sym c.is_late.ensures ∙ c.if-is_late.true)
 
 pub sink_box-requires : goal.sink_box-requires
 sink_box-requires c =
     let a = c.args in
     let f = c.ranges.x in
     let g = c.ranges.y in
-    let t = sym (simp to_z-of_z at c.inside.ensures) ∙ not-false _ c.if-not-inside.false in
+    let t = sym (simp to_z-of_z at c.inside.ensures) ∙ c.if-not-inside.false in
     let (p, q) = and_both (in_range a.x) (in_range a.y) t in
     let h = ltb-false 1000000 a.w (sym c.is_late.ensures ∙ c.if-is_late.false) in
     simp to_z-of_z (nearer a.x p, nearer a.y q, omega arith)
@@ -38,7 +38,7 @@ returns c =
     let a = b.args in
     let f = b.ranges.x in
     let g = b.ranges.y in
-    let t = sym (simp to_z-of_z at b.inside.ensures) ∙ not-false _ b.if-not-inside.false in
+    let t = sym (simp to_z-of_z at b.inside.ensures) ∙ b.if-not-inside.false in
     let l = sym b.is_late.ensures ∙ b.if-is_late.false in
     let (p, q) = and_both (in_range a.x) (in_range a.y) t in
     let e : c.hull.result ≡ hull_of a.b (sink_box a.x a.y a.w) = rw (c.hull.ensures, simp to_z-of_z at c.sink_box.ensures) in

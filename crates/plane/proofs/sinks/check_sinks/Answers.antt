@@ -12,7 +12,7 @@ unfolding check_sinks
 returns-in-Refused c =
     simp (
       eq-eqb _ _ c.if-xs-delays.false,
-      sym c.check_places-said.ensures ∙ c.said-1.given.1,
+      sym c.check_places-said.ensures ∙ c.in-Refused.is,
     )
 
 pub returns-then-any_late : goal.returns-then-any_late
@@ -20,7 +20,7 @@ unfolding check_sinks
 returns-then-any_late c =
     simp (
       eq-eqb _ _ c.if-xs-delays.false,
-      sym c.check_places-said.ensures ∙ c.enum_told-1.given.1,
+      sym c.check_places-said.ensures ∙ c.in_default.is,
       sym c.any_late.ensures ∙ c.if-any_late.true,
       c.first_late.ensures,
     )
@@ -30,6 +30,6 @@ unfolding check_sinks
 returns c =
     simp (
       eq-eqb _ _ c.if-xs-delays.false,
-      sym c.check_places-said.ensures ∙ c.enum_told-1.given.1,
+      sym c.check_places-said.ensures ∙ c.in_default.is,
       sym c.any_late.ensures ∙ c.if-any_late.false,
     )
