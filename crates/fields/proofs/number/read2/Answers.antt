@@ -1,0 +1,27 @@
+use Prim.Native.Nat.{◌+◌}
+use native.Mathlib.Nat.{add-zero}
+use native.Mathlib.Omega.{arith}
+use Rattle.fields.specs.Bytes.{number_at}
+use Rattle.fields.proofs.number.read2.Goals as goal
+
+pub overflow_cast-result : goal.overflow_cast-result
+overflow_cast-result c = omega (arith, c.shared_slice_known-1.given c.args.at)
+
+pub overflow_mul-result : goal.overflow_mul-result
+overflow_mul-result c = omega (arith, c.shared_slice_known-1.given c.args.at)
+
+pub overflow_cast-result-2 : goal.overflow_cast-result-2
+overflow_cast-result-2 c =
+    omega (arith, c.shared_slice_known-2-1.given (c.args.at + 1))
+
+pub overflow_add-result-2 : goal.overflow_add-result-2
+overflow_add-result-2 c =
+    omega (
+      arith,
+      c.shared_slice_known-2-1.given c.args.at,
+      c.shared_slice_known-2-1.given (c.args.at + 1),
+    )
+
+pub returns : goal.returns
+unfolding number_at
+returns c = simp add-zero (omega arith)

@@ -1,0 +1,15 @@
+use borrow.Author.Rules.{sfits_of}
+use lib.IntN.{pos}
+use lib.ListN.{get_or}
+use mir.Facts.{to_z-of_z}
+use mir.Syntax.{w32}
+use mir.Val.{SFits}
+use Rattle.fields.proofs.record.put_place_of.Goals as goal
+
+pub returns : goal.returns
+returns c =
+    let b = c in
+    let a = b.args in
+    let f : SFits w32 (get_or a.xs.now a.i (pos 0)) = sfits_of b.put_place-arg-2-1.given in
+    let g : SFits w32 (get_or a.ys.now a.i (pos 0)) = sfits_of b.put_place-arg-3-1.given in
+    simp to_z-of_z at b.put_place.ensures

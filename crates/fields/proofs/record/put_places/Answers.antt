@@ -1,0 +1,12 @@
+use mathlib.Core.Path.{refl, sym}
+use Rattle.fields.specs.Fields.{places}
+use Rattle.fields.proofs.Values.{length-places}
+use Rattle.fields.proofs.Stores.{field_put}
+use Rattle.fields.proofs.record.put_places.Goals as goal
+
+pub returns : goal.returns
+returns c =
+    let p = c in
+    let h = p in
+    let a = h.args in
+    field_put a.tag (places a.xs.now a.ys.now) (sym (length-places a.xs.now a.ys.now)) h.put_header.ensures p.put_each_place.ensures refl
