@@ -24,6 +24,7 @@ none_left p none h = refl
 none_left p (also {a} x g) h = rw (not_of p a (λ e. omega arith) (λ e. omega arith)) (ap suc (none_left p g h))
 
 one_left : (p : Pair) {ls : List ℕ} → All (λ b. p.low < b) ls → Rising ls → In p.high ls → p.low < p.high → length (without p ls) + 1 ≡ length ls
+one_left p none _ x8 h = elim x8 [ ]
 one_left p (also x g) (cons q r) hit h =
     let e : is_of p p.high ≡ true = rw (ne_eqb p.high p.low (λ e. omega arith), eq-eqb p.high p.high refl) in
     rw e (omega (arith, none_left p q h))
@@ -35,6 +36,7 @@ pub two_left : (p : Pair) {ls : List ℕ} → Rising ls → Within ls p → leng
 two_left p r w = go r w.low_in w.high_in
   where
     go : {ls : List ℕ} → Rising ls → In p.low ls → In p.high ls → length (without p ls) + 2 ≡ length ls
+    go nil x5 j = elim x5 [ ]
     go (cons {a} {ls} q s) hit j =
         let e : is_of p p.low ≡ true = rw (eq-eqb p.low p.low refl) in
         rw e (omega (arith, one_left p q s (skip j (λ z. omega (arith, w.up))) w.up))

@@ -100,6 +100,7 @@ row_each P a [] h = none
 row_each P a (b ∷ bs) (also p h) = also p (row_each P a bs h)
 
 each_pair : (P : Pair → Type 0) {a b : ℕ} {ls : List ℕ} → Rising ls → All P (pairs ls) → In a ls → In b ls → a < b → P (pair a b)
+each_pair P {a = a} {b = b} nil h x9 j l = elim x9 [ ]
 each_pair P {a} {b} (cons {ls} q r) h hit j l = in_all (skip j (λ e. omega arith)) (row_each P a ls (all_left (row a ls) (pairs ls) h))
 each_pair P {a} {b} (cons q r) h (next i) hit l = let m = in_all i q in let z : ⊥ = omega arith in absurd z
 each_pair P {a} {b} (cons {a = c} {ls} q r) h (next i) (next j) l = each_pair P r (all_right (row c ls) h) i j l

@@ -21,6 +21,7 @@ max_one a b = ⊎_elim (λ h. inr (omega arith)) (λ h. inl (omega arith)) (or_l
 module _ (row : List ℕ) where
   farthest_over : (l : List ℕ) (j : ℕ) → Memᴰ j l → get_or row j 0 ≤ farthest_of row l
   unfolding farthest_of
+  farthest_over [] j x' = elim x' [ ]
   farthest_over (b ∷ l) j (Memᴰ.head e) = omega (arith, ap (λ (x : ℕ). get_or row x 0) e)
   farthest_over (b ∷ l) j (Memᴰ.tail m) = omega (arith, farthest_over l j m)
 
@@ -59,6 +60,7 @@ module _ (q : List (List ℕ)) where
   module _ (swap : (i j : ℕ) → entry q i j ≡ entry q j i) where
     widest_over : (l : List ℕ) (i j : ℕ) → Memᴰ i l → Memᴰ j l → entry q i j ≤ widest_of q l
     unfolding widest_of
+    widest_over [] i j x'' m = elim x'' [ ]
     widest_over (a ∷ l) i j (Memᴰ.head e) m =
         let z : entry q i j ≡ entry q a j = ap (λ (x : ℕ). entry q x j) e in omega (arith, farthest_over (get_or q a []) (a ∷ l) j m)
     widest_over (a ∷ l) i j (Memᴰ.tail m) (Memᴰ.head f) =
@@ -69,6 +71,7 @@ module _ (s : Sinks) where
   -- two sinks without a delay
   of_two : (i j a : ℕ) → Memᴰ a (i ∷ j ∷ []) → (a ≡ i) ⊎ (a ≡ j)
   of_two i j a (Memᴰ.head e) = inl e
+  of_two i j a (Memᴰ.tail (Memᴰ.tail x8)) = elim x8 [ ]
   of_two i j a (Memᴰ.tail (Memᴰ.head e)) = inr e
 
   pub pair-diameter : ((i : ℕ) → s.wait i ≡ 0) → (i j : ℕ) → diameter s (i ∷ j ∷ []) ≡ dist (s.at i) (s.at j)

@@ -30,6 +30,7 @@ pub data FirstLeast (f : ℕ → ℕ) (a : ℕ) : List ℕ → Type 0 where
 
 least_under : (f : ℕ → ℕ) (l : List ℕ) (x : ℕ) → Memᴰ x l → least_of f l ≤ f x
 unfolding least_of
+least_under f [] x x3 = elim x3 [ ]
 least_under f (a ∷ []) x (Memᴰ.head e) = omega (arith, ap f e)
 least_under f (a ∷ []) x (Memᴰ.tail m) = elim m [ ]
 least_under f (a ∷ (b ∷ l)) x (Memᴰ.head e) = omega (arith, ap f e)
@@ -45,6 +46,7 @@ least_met f a (b ∷ l) =
 -- the first with the value g, where g is the least
 found_first : (f : ℕ → ℕ) (g o : ℕ) (l : List ℕ) → ((x : ℕ) → Memᴰ x l → g ≤ f x) → (y : ℕ) → Memᴰ y l → f y ≡ g
     → FirstLeast f (first_or (λ x. eqb (f x) g) o l) l × (f (first_or (λ x. eqb (f x) g) o l) ≡ g)
+found_first f g o [] low y m e = elim m [ ]
 found_first f g o (x ∷ l) low y m e = go (ℕ_discrete (f x) g) m (found_first f g o l (λ z h. low z (Memᴰ.tail h)) y)
   where
     p : ℕ → Bool

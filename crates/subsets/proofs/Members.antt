@@ -20,6 +20,7 @@ keep_in p (y ∷ l) x m = go (p y) refl (keep_in p l x) m
 
 pub in_keep : (p : ℕ → Bool) (l : List ℕ) (x : ℕ) → Memᴰ x l → p x ≡ true → Memᴰ x (keep p l)
 unfolding keep
+in_keep p [] x x4 e = elim x4 [ ]
 in_keep p (y ∷ l) x (Memᴰ.head q) e = go (p y) refl
   where
     go : (b : Bool) → p y ≡ b → Memᴰ x (keep_if b y (keep p l))
