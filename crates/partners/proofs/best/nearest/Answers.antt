@@ -1,9 +1,11 @@
-use mathlib.Core.Path.{refl, ap, ◌∙◌}
+use mathlib.Core.Path.{refl, sym, ap, ◌∙◌}
+use Prim.Native.Nat.{◌-◌}
 use native.Mathlib.Omega.{arith}
 use lib.ListN.{length}
 use Rattle.partners.specs.Rows.{Row, row_at, given}
 use Rattle.partners.proofs.Members.{all_at}
-use Rattle.partners.proofs.Picking.{row_in_order, right_chosen, chosen_up, right_mend, hit_at}
+use Rattle.partners.proofs.Picking.{row_in_order, right_chosen, chosen_up, right_mend, missing, hit_at}
+use Rattle.partners.proofs.Ending.{gone_less}
 use Rattle.partners.proofs.best.nearest.Goals as goal
 
 pub choose-c-requires : goal.choose-c-requires
@@ -53,3 +55,13 @@ returns c =
     let w = v.1 o.top o.low o.right in
     let (h, n) = hit_at live (row_at l.rows l.c.row).at v.2.place c.loop-c-test.false in
     (right_chosen o.rising w (length live) refl v.2.lowest l.c.with h n, record { up = chosen_up o.rising w (length live) refl v.2.lowest l.c.with h n; inside = h; right = v.1 })
+
+pub loop-c-smaller : goal.loop-c-smaller
+loop-c-smaller c =
+    let o = c.requires in
+    let v = c.loop-c.invariant in
+    let q = c.partner-q.ensures in
+    let g = c.give.ensures in
+    gone_less c.args.live.now c.loop-c.rows c.give.new.rows (length c.args.live.now - 1) c.loop-c.c.row q.0.place v.2.lowest.one
+    (missing c.args.live.now (row_at c.loop-c.rows c.loop-c.c.row).at v.2.place c.loop-c-test.true) q.0.inside (sym q.0.names ∙ sym (ap (λ (r : Row). r.at) g.here))
+    (λ t h n. ap (λ (r : Row). r.at) (g.others t (omega (arith, o.few)) n ∙ q.1 t (omega (arith, o.few))))

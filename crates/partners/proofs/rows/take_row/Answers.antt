@@ -1,6 +1,9 @@
+use borrow.Author.Tests.{lt-ltb, le-ltb}
 use mathlib.Core.Path.{refl}
 use Prim.Native.Nat.{◌+◌}
+use Rattle.partners.proofs.Rowing.{wrote_later, wrote_held}
 use Rattle.partners.proofs.Room.{place_fits, bytes_fit, row_before, copies, copies_to, copies_from, copies_set, copies_sets}
+use Rattle.partners.proofs.rows.take_row.Goals.{then-nearer, else-nearer, then-nearer-2, else-nearer-2}
 use Rattle.partners.proofs.rows.take_row.Goals as goal
 
 pub overflow_add-far : goal.overflow_add-far
@@ -104,3 +107,10 @@ bounds-rows-t-6 c = copies_set 4 c.args.rows.now c.args.t c.args.s (2048 + c.arg
 pub shape_of-rows : goal.shape_of-rows
 unfolding copies
 shape_of-rows c = copies_sets 4 c.args.rows.now c.args.t c.args.s (2048 + c.args.t) c.if-nearer.rows (2560 + c.args.t) c.if-nearer-2.rows
+
+pub returns : goal.returns
+returns c =
+    let s = c.args in
+    wrote_held s.b s.m s.rows.now s.s (wrote_later s.rows.now s.t s.s c.requires.0 c.requires.1 c.requires.2) refl c.span-e.ensures
+    (elim c.if-nearer.branch [ then-nearer w ↦ rw (lt-ltb _ _ w.if-nearer.true) w.rows-is | else-nearer w ↦ rw (le-ltb _ _ w.if-nearer.false) w.rows-is ])
+    (elim c.if-nearer-2.branch [ then-nearer-2 w ↦ rw (lt-ltb _ _ w.if-nearer-2.true) w.rows-is | else-nearer-2 w ↦ rw (le-ltb _ _ w.if-nearer-2.false) w.rows-is ])
