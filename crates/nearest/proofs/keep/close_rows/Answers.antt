@@ -1,0 +1,9 @@
+use native.Mathlib.Omega.{arith}
+use Rattle.partners.proofs.Entering.{entered}
+use Rattle.partners.proofs.Moving.{both_left}
+use Rattle.nearest.proofs.keep.close_rows.Goals as goal
+
+pub returns : goal.returns
+returns c =
+    let s = c.args in
+    entered (λ t h. both_left s.c.row s.c.with s.k c.requires.2 c.requires.1 c.hold.ensures.first c.hold.ensures.others c.take_one.ensures c.take_two.ensures t (omega (arith, h))) c.seat.ensures
