@@ -6,7 +6,7 @@ use lib.ListN.{length, take, replicate}
 use lib.Seq.{length-take-le, length_front}
 use Rattle.plane.proofs.Checks.{fitting}
 use Rattle.partners.proofs.Boxing.{covers_in_order}
-use Rattle.nearest.proofs.Going.{going_begin, going_turn, going_open, going_end}
+use Rattle.nearest.proofs.Going.{going_begin, going_open, going_end, going_turn}
 use Rattle.nearest.proofs.order.order_sound.Goals as goal
 
 abbrev zeros-512 : List ℕ
@@ -77,6 +77,12 @@ overflow_add-i-in-loop-i c = omega (arith, c.requires.few, c.loop-i-test.true)
 pub loop-i-smaller : goal.loop-i-smaller
 loop-i-smaller c = omega (arith, c.loop-i-test.true)
 
+pub shape_of-js : goal.shape_of-js
+shape_of-js c = c.loop-i.invariant.4.size
+
+pub returns : goal.returns
+returns c = going_end c.loop-i.invariant.4 (omega (arith, c.loop-i.invariant.0, c.loop-i-test.false)) c.requires.room
+
 pub loop-i-preserved : goal.loop-i-preserved
 loop-i-preserved c =
     let o = c.requires in
@@ -85,14 +91,8 @@ loop-i-preserved c =
     let r = c.round in
     let k = length c.args.xs.now - l.i in (
       omega (arith, h),
-      c.round.auto.bs,
-      length_front l.live r.new.1.0 k c.round.auto.live ∙ l.invariant.2,
-      c.round.auto.rows,
+      c.round.auto.bs ∙ l.invariant.1,
+      length_front l.live r.new.live k c.round.auto.live ∙ l.invariant.2,
+      c.round.auto.rows ∙ l.invariant.3,
       going_turn _ l.invariant.4 h (omega (arith, l.invariant.4.size, o.room)) r.ensures,
     )
-
-pub shape_of-js : goal.shape_of-js
-shape_of-js c = c.loop-i.invariant.4.size
-
-pub returns : goal.returns
-returns c = going_end c.loop-i.invariant.4 (omega (arith, c.loop-i.invariant.0, c.loop-i-test.false)) c.requires.room
