@@ -1,0 +1,49 @@
+use mathlib.Core.Path.{sym, ◌∙◌}
+use native.Mathlib.Omega.{arith}
+use Prim.Native.Nat.{◌-◌, ◌*◌}
+use lib.IntN.{pos}
+use lib.ListN.{length, replicate}
+use Rattle.plane.specs.Sinks.{sinks_at, prompt}
+use Rattle.orders.specs.Nodes.{places_u, places_v, wires}
+use Rattle.lists.proofs.Front.{front_lent}
+use Rattle.tree_files.proofs.TreeAnswers.{length_u, length_v, length-wires}
+use Rattle.tree_files.proofs.TreeLengths.{tree_is}
+use Rattle.house.proofs.Lengths.{length-joined_file}
+use Rattle.fields.proofs.Stores.{put_more, put_size}
+use Rattle.tree_files.proofs.tree_file.put_tree.Goals as goal
+
+pub put_tags-requires : goal.put_tags-requires
+put_tags-requires c =
+    let a = c.args in
+    let xs = a.xs.now in
+    let ys = a.ys.now in
+    let js = a.js.now in
+    let s = sinks_at xs ys (prompt xs) in
+    let m = 2 * length xs - 1 in
+    let e = c.embed_prompt.ensures in
+    let p = front_lent (places_u s js) (replicate 1023 (pos 0)) m e.writes_u (length_u xs ys js) in
+    let q = front_lent (places_v s js) (replicate 1023 (pos 0)) m e.writes_v (length_v xs ys js) in
+    let r = front_lent (wires s js) (replicate 1023 0) m e.writes_w (length-wires xs ys js) in
+    let u = length_u xs ys js in
+    let j = c.requires.0.joins in
+    let l = c.put_joined-at.ensures in
+    rw (p, q, r) (
+      omega (arith, put_size l, l.ends, length-joined_file xs ys js j.valid j.some, j.some),
+      u ∙ sym (length_v xs ys js),
+      u ∙ sym (length-wires xs ys js),
+      omega (arith, j.few),
+    )
+
+pub returns : goal.returns
+returns c =
+    let a = c.args in
+    let xs = a.xs.now in
+    let ys = a.ys.now in
+    let js = a.js.now in
+    let s = sinks_at xs ys (prompt xs) in
+    let m = 2 * length xs - 1 in
+    let e = c.embed_prompt.ensures in
+    let p = front_lent (places_u s js) (replicate 1023 (pos 0)) m e.writes_u (length_u xs ys js) in
+    let q = front_lent (places_v s js) (replicate 1023 (pos 0)) m e.writes_v (length_v xs ys js) in
+    let r = front_lent (wires s js) (replicate 1023 0) m e.writes_w (length-wires xs ys js) in
+    rw (tree_is xs ys js) (put_more c.put_joined-at.ensures (rw (p, q, r) at c.put_tags.ensures))
