@@ -19,7 +19,7 @@ use Rattle.subsets.specs.Entries.{entry_after, examined, held_by}
 use Rattle.subsets.specs.Subsets.{rising, splits}
 use Rattle.subsets.specs.Table.{better_at, blank_of, steps_of, table_after}
 use Rattle.subsets.proofs.Bellman.{best_bound, large, least_le, small_blank}
-use Rattle.subsets.proofs.Digits.{Sub, low, ones_rest}
+use Rattle.subsets.proofs.Digits.{Sub, ones_rest}
 use Rattle.subsets.proofs.Filling.{after_length}
 use Rattle.subsets.proofs.Finished.{Finished, blank_get, done_length, done_to, finished_to}
 use Rattle.subsets.proofs.Partway.{done_blank, empty_stands, entry_cut}

@@ -17,7 +17,6 @@ use Rattle.orders.specs.Sound.{Ordered}
 use Rattle.orders.proofs.Orders.{node-sink, node-join}
 use Rattle.orders.proofs.Joined.{halves_are}
 use Rattle.subsets.specs.Kept.{join_count, kept_order, node_in, pairs_of}
-use Rattle.subsets.proofs.Digits.{low}
 use Rattle.subsets.proofs.Masks.{over_once}
 use Rattle.subsets.proofs.Named.{LowFrom, Sinked, low_at, named_once, once_apart, pairs_low, sinked_l, sinked_one, sinked_r}
 use Rattle.subsets.proofs.Numbering.{order_count, pairs-length}

@@ -11,7 +11,6 @@ use lib.Seq.{get_or-set_other}
 use Rattle.subsets.specs.Entries.{examined}
 use Rattle.subsets.specs.Subsets.{rising, splits}
 use Rattle.subsets.specs.Table.{blanks, cost_of, pair_up, step_of, steps, steps_of, table_after}
-use Rattle.subsets.proofs.Digits.{low}
 use Rattle.subsets.proofs.Filling.{take-append, take-map}
 use Rattle.subsets.proofs.Finished.{done_to}
 use Rattle.subsets.proofs.Runs.{rising_append, steps-append}

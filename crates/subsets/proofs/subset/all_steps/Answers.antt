@@ -1,5 +1,5 @@
 use mathlib.Core.Path.{◌≡◌, refl}
-use mathlib.Core.List.{List, ◌∷◌}
+use mathlib.Core.List.{List, [], ◌∷◌}
 use Prim.Native.Nat.{ℕ, zero, suc, ◌≤◌}
 use native.Mathlib.Omega.{arith}
 use lib.ListN.{get_or}
