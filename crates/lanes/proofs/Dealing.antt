@@ -29,6 +29,7 @@ least_start f v [] = le_refl v
 least_start f v (a ∷ l) = omega (arith, least_start f (min v (f a)) l)
 
 least_at : (f : ℕ → ℕ) (v : ℕ) (l : List ℕ) (a : ℕ) → Memᴰ a l → least_with f v l ≤ f a
+least_at f v [] a x' = elim x' [ ]
 least_at f v (b ∷ l) a (Memᴰ.head q) = omega (arith, least_start f (min v (f b)) l, ap f q)
 least_at f v (b ∷ l) a (Memᴰ.tail m) = least_at f (min v (f b)) l a m
 
@@ -74,6 +75,7 @@ each p (a ∷ l) = p a && each p l
 
 each_in : (p : ℕ → Bool) (l : List ℕ) (a : ℕ) → each p l ≡ true → Memᴰ a l → p a ≡ true
 unfolding each
+each_in p [] a e x'' = elim x'' [ ]
 each_in p (b ∷ l) a e (Memᴰ.head q) = ap p q ∙ (and_both (p b) (each p l) e).0
 each_in p (b ∷ l) a e (Memᴰ.tail m) = each_in p l a (and_both (p b) (each p l) e).1 m
 
@@ -126,6 +128,7 @@ module _ (l : ℕ) (few : l < 8) where
 
 -- ---- the splits of s
 pub parts_at : (s : ℕ) (l : List ℕ) (a : ℕ) → Parts s l → Memᴰ a l → (0 < a) × (a < s) × Sub a s
+parts_at s [] a p x'' = elim x'' [ ]
 parts_at s (b ∷ l) a p (Memᴰ.head q) = (omega (arith, p.0), omega (arith, p.1), subst (λ (x : ℕ). Sub x s) (sym q) p.2)
 parts_at s (b ∷ l) a p (Memᴰ.tail m) = parts_at s l a p.3 m
 

@@ -1,0 +1,29 @@
+use native.Mathlib.Omega.{arith}
+use Rattle.lanes.proofs.Opening.{entry_fits, lane_room, entry_is, next_more}
+use mathlib.Core.Path.{◌≡◌}
+use mathlib.Core.List.{foldl, map}
+use Prim.Native.Nat.{◌+◌, ◌*◌}
+use lib.ListN.{set}
+use Rattle.subsets.specs.Square.{held}
+use Rattle.subsets.specs.Subsets.{splits}
+use Rattle.subsets.specs.Table.{pair_up, step_of}
+use Rattle.lanes.proofs.blocks.fill_low.Goals as goal
+
+pub least_lane-requires : goal.least_lane-requires
+least_lane-requires c =
+    let r = lane_room c.args.low c.requires.1 in
+    (omega (arith, c.requires.3, c.requires.4, r), omega (arith, c.requires.4, r, c.requires.0.lanes.count))
+
+pub overflow_add-table : goal.overflow_add-table
+overflow_add-table c =
+    let a = c.args in
+    let p = c.requires in
+    omega (arith, entry_fits a.ds.now a.table.now a.sums.now a.h a.low p.0 p.1 p.2 c.diameter.result c.least_lane.result c.least_low-least.result a.from a.end c.diameter.ensures p.3 p.4 c.least_lane.ensures c.least_low-least.ensures)
+
+pub returns : goal.returns
+returns c =
+    let a = c.args in
+    let p = c.requires in
+    let e : set a.table.now c.place.result (c.diameter.result + c.least_low-least.result) ≡ foldl (step_of (held a.ds.now)) a.table.now (map (pair_up (8 * a.h + a.low)) (splits (8 * a.h + a.low))) =
+    entry_is a.ds.now a.table.now a.sums.now a.h a.low p.0 p.1 p.2 c.diameter.result c.least_lane.result c.least_low-least.result a.from a.end c.diameter.ensures p.3 p.4 c.least_lane.ensures c.least_low-least.ensures c.place.result c.place.ensures in
+    record { next = next_more a.ds.now a.table.now (set a.table.now c.place.result (c.diameter.result + c.least_low-least.result)) a.sums.now a.h a.low p.0 p.1 e; table_after = e }
