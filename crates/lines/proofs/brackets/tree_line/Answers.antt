@@ -1,6 +1,14 @@
-use Rattle.lines.specs.Lines.{second_line}
-use Rattle.text.proofs.Written.{room_then, then}
+use mathlib.Core.List.{[], ◌∷◌}
+use native.Mathlib.Omega.{arith}
+use Rattle.lines.specs.Lines.{feed, second_line}
+use Rattle.text.proofs.Written.{room_here, room_then, then}
 use Rattle.lines.proofs.brackets.tree_line.Goals as goal
+
+pub subtree-end-requires : goal.subtree-end-requires
+unfolding second_line
+subtree-end-requires c =
+    let z = c in
+    (z.requires.0, omega (arith, z.requires.0.some), room_here (feed ∷ []) z.requires.1)
 
 pub byte-requires : goal.byte-requires
 unfolding second_line
