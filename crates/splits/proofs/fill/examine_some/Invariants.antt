@@ -1,0 +1,9 @@
+use Rattle.subsets.proofs.Scan.{Scan}
+use Rattle.splits.proofs.fill.examine_some.Given as goal
+
+-- The loop's invariant is `Scan`.
+abbrev pub invariant-loop-other : goal.invariant-loop-other
+invariant-loop-other l = Scan l.d l.table l.s l.budget l.other l.left l.best
+
+abbrev pub decreases-loop-other : goal.decreases-loop-other
+decreases-loop-other l = l.other
