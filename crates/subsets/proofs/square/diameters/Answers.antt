@@ -17,6 +17,7 @@ pub farthest-requires : goal.farthest-requires
 farthest-requires c =
     let l = c.loop-j in
     let h : l.j < c.args.n = omega (arith, c.place-count.ensures) in
+    -- one sink more has room
     let room : 2 * l.half ≤ length l.ds = omega (arith, l.invariant, double_fits l.j c.args.n h, c.requires.1, length-set c.args.ds.now 0 0) in
     (omega arith, l.invariant.1, omega (arith, room))
 
@@ -24,6 +25,7 @@ pub widen-requires : goal.widen-requires
 widen-requires c =
     let l = c.loop-j in
     let h : l.j < c.args.n = omega (arith, c.place-count.ensures) in
+    -- one sink more has room
     let room : 2 * l.half ≤ length l.ds = omega (arith, l.invariant, double_fits l.j c.args.n h, c.requires.1, length-set c.args.ds.now 0 0) in
     omega (arith, c.farthest.auto.ds, room)
 
