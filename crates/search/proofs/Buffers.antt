@@ -39,7 +39,7 @@ module _ (xs ys : List ℤ) (delays : List ℕ) (budget : ℕ) (table js : List 
   -- it is that of the definition after as many steps as are said
   pub table_after_lem : take (2 ^ length xs) t ≡ table_after (diam here) (length xs) f.steps
   table_after_lem =
-      filled_part xs ys delays budget (diam here) table t call.writes-table
+      filled_part xs ys delays budget (diam here) table t call.writes_table
       ∙ after_steps (diam here) (length xs) budget
       ∙ ap (table_after (diam here) (length xs)) (sym (calls.steps_said xs ys delays budget table js us vs ws f t j u' v' w call))
 
@@ -50,7 +50,7 @@ module _ (xs ys : List ℤ) (delays : List ℕ) (budget : ℕ) (table js : List 
       ∙ entry_is (diam here) (length xs) f.steps prepared.few 6000000 (diam_small xs ys delays prepared.ranged) (omega arith) m h
 
   pub table_behind : drop (2 ^ length xs) t ≡ drop (2 ^ length xs) table
-  table_behind = front_behind (table_of here budget) table (2 ^ length xs) call.writes-table (after_length (diam here) (length xs) budget)
+  table_behind = front_behind (table_of here budget) table (2 ^ length xs) call.writes_table (after_length (diam here) (length xs) budget)
 
   -- ---- the pairs, the places and the wires
   pairs_are : take (2 * (length xs - 1)) j ≡ joins_found here budget

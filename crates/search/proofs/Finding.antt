@@ -58,7 +58,7 @@ provided xs ys delays table js us vs ws e =
             ranged = m.ranged;
             some = m.some;
             few = m.few;
-            room-table = ltb-false (length table) (2 ^ length xs) a;
+            room_table = ltb-false (length table) (2 ^ length xs) a;
             room_js = ltb-false (length js) (2 * (length xs - 1)) b;
           };
       room_u = u;

@@ -39,6 +39,7 @@ use Rattle.subsets.proofs.Splits.{splits_count}
 -- ---- a subset of n sinks that is not empty has a sink: its lowest
 
 in_some : (i : ℕ) (l : List ℕ) → Memᴰ i l → 0 < length l
+in_some i [] h = elim h [ ]
 in_some i (a ∷ l) h = omega arith
 
 sinks_some : (n m : ℕ) → 0 < m → m < 2 ^ n → 0 < length (sinks_in_subset n m)

@@ -42,7 +42,7 @@ module _ (xs ys : List ℤ) (delays table js : List ℕ) (us vs : List ℤ) (ws 
       let e : told_search r ≡ told_search r' = p.answers ∙ sym q.answers in
       record {
         said = search_once r r' e;
-        table_same = p.writes-table ∙ ap (λ (a : Said Found). front (if_answered a (table_of s budget)) table) e ∙ sym q.writes-table;
+        table_same = p.writes_table ∙ ap (λ (a : Said Found). front (if_answered a (table_of s budget)) table) e ∙ sym q.writes_table;
         js_same = p.writes_js ∙ ap (λ (a : Said Found). front (if_answered a (joins_found s budget)) js) e ∙ sym q.writes_js;
         us_same = p.writes_u ∙ ap (λ (a : Said Found). front (if_answered a (places_u s (joins_found s budget))) us) e ∙ sym q.writes_u;
         vs_same = p.writes_v ∙ ap (λ (a : Said Found). front (if_answered a (places_v s (joins_found s budget))) vs) e ∙ sym q.writes_v;
@@ -60,7 +60,7 @@ module _ (xs ys : List ℤ) (delays table js : List ℕ) (us vs : List ℤ) (ws 
             let ej : joins_found s c ≡ joins_found s b = joins_stand s c b enough' enough in
             record {
               answers = p.answers ∙ ap (after (check_search xs ys delays (length table) (length js) (length us) (length vs) (length ws))) (found_stands s c b enough' enough);
-              writes-table = p.writes-table ∙ ap (λ (l : List ℕ). front (if_answered r l) table) (table_stands s c b enough' enough);
+              writes_table = p.writes_table ∙ ap (λ (l : List ℕ). front (if_answered r l) table) (table_stands s c b enough' enough);
               writes_js = p.writes_js ∙ ap (λ (l : List ℕ). front (if_answered r l) js) ej;
               writes_u = p.writes_u ∙ ap (λ (l : List ℕ). front (if_answered r (places_u s l)) us) ej;
               writes_v = p.writes_v ∙ ap (λ (l : List ℕ). front (if_answered r (places_v s l)) vs) ej;
@@ -71,7 +71,7 @@ module _ (xs ys : List ℤ) (delays table js : List ℕ) (us vs : List ℤ) (ws 
             let er : r ≡ refused_by x = p.answers ∙ ap (λ (k : Checked). after k (found s c)) e in
             record {
               answers = er ∙ sym (ap (λ (k : Checked). after k (found s b)) e);
-              writes-table = p.writes-table ∙ ap (λ (a : Said Found). front (if_answered a (table_of s c)) table) er ∙ sym (ap (λ (a : Said Found). front (if_answered a (table_of s b)) table) er);
+              writes_table = p.writes_table ∙ ap (λ (a : Said Found). front (if_answered a (table_of s c)) table) er ∙ sym (ap (λ (a : Said Found). front (if_answered a (table_of s b)) table) er);
               writes_js = p.writes_js ∙ ap (λ (a : Said Found). front (if_answered a (joins_found s c)) js) er ∙ sym (ap (λ (a : Said Found). front (if_answered a (joins_found s b)) js) er);
               writes_u = p.writes_u ∙ ap (λ (a : Said Found). front (if_answered a (places_u s (joins_found s c))) us) er ∙ sym (ap (λ (a : Said Found). front (if_answered a (places_u s (joins_found s b))) us) er);
               writes_v = p.writes_v ∙ ap (λ (a : Said Found). front (if_answered a (places_v s (joins_found s c))) vs) er ∙ sym (ap (λ (a : Said Found). front (if_answered a (places_v s (joins_found s b))) vs) er);

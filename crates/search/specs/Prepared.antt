@@ -15,7 +15,7 @@ pub record Prepared (xs ys : List ℤ) (delays table js : List ℕ) : Type 0 whe
   pub ranged : Ranged xs ys delays
   pub some : 0 < length xs
   pub few : length xs ≤ 12
-  pub room-table : 2 ^ length xs ≤ length table
+  pub room_table : 2 ^ length xs ≤ length table
   pub room_js : 2 * (length xs - 1) ≤ length js
 
 -- and room for their nodes
@@ -35,13 +35,13 @@ pub record Tabled (xs ys : List ℤ) (delays : List ℕ) (budget : ℕ) (ds tabl
 -- the table and the joins are written
 pub record Joins (xs ys : List ℤ) (delays : List ℕ) (budget : ℕ) (table js : List ℕ) (steps : ℕ) (table' js' : List ℕ) : Type 0 where
   pub counts : steps ≡ min budget (step_count (length xs))
-  pub writes-table : table' ≡ front (table_of (sinks_at xs ys delays) budget) table
+  pub writes_table : table' ≡ front (table_of (sinks_at xs ys delays) budget) table
   pub writes_js : js' ≡ front (joins_found (sinks_at xs ys delays) budget) js
 
 -- and so are the places and the wires
 pub record Finds (xs ys : List ℤ) (delays : List ℕ) (budget : ℕ) (table js : List ℕ) (us vs : List ℤ) (ws : List ℕ) (r : Found) (table' js' : List ℕ) (us' vs' : List ℤ) (ws' : List ℕ) : Type 0 where
   pub finds : r ≡ found (sinks_at xs ys delays) budget
-  pub writes-table : table' ≡ front (table_of (sinks_at xs ys delays) budget) table
+  pub writes_table : table' ≡ front (table_of (sinks_at xs ys delays) budget) table
   pub writes_js : js' ≡ front (joins_found (sinks_at xs ys delays) budget) js
   pub writes_u : us' ≡ front (places_u (sinks_at xs ys delays) (joins_found (sinks_at xs ys delays) budget)) us
   pub writes_v : vs' ≡ front (places_v (sinks_at xs ys delays) (joins_found (sinks_at xs ys delays) budget)) vs

@@ -44,7 +44,7 @@ search_answer xs ys delays budget rt rj ru rv rw = after (check_search xs ys del
 -- the inputs, the five buffers before, the answer, and the five buffers after
 pub record Searches (xs ys : List ℤ) (delays : List ℕ) (budget : ℕ) (table js : List ℕ) (us vs : List ℤ) (ws : List ℕ) (said : Said Found) (table' js' : List ℕ) (us' vs' : List ℤ) (ws' : List ℕ) : Type 0 where
   pub answers : said ≡ search_answer xs ys delays budget (length table) (length js) (length us) (length vs) (length ws)
-  pub writes-table : table' ≡ front (if_answered said (table_of (sinks_at xs ys delays) budget)) table
+  pub writes_table : table' ≡ front (if_answered said (table_of (sinks_at xs ys delays) budget)) table
   pub writes_js : js' ≡ front (if_answered said (joins_found (sinks_at xs ys delays) budget)) js
   pub writes_u : us' ≡ front (if_answered said (places_u (sinks_at xs ys delays) (joins_found (sinks_at xs ys delays) budget))) us
   pub writes_v : vs' ≡ front (if_answered said (places_v (sinks_at xs ys delays) (joins_found (sinks_at xs ys delays) budget))) vs

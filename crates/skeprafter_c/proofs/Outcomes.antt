@@ -35,7 +35,7 @@ pub only_skeprafter_search : (xs ys : List ℤ) (delays : List ℕ) (budget : �
     → Searched xs ys delays budget table js us vs ws t j u v w s → Searched xs ys delays budget table js us vs ws t' j' u' v' w' s' → (s ≡ s') × (t ≡ t') × (j ≡ j') × (u ≡ u') × (v ≡ v') × (w ≡ w')
 only_skeprafter_search xs ys delays budget table js us vs ws p q = (
   p.says ∙ sym q.says,
-  p.does.writes-table ∙ sym q.does.writes-table,
+  p.does.writes_table ∙ sym q.does.writes_table,
   p.does.writes_js ∙ sym q.does.writes_js,
   p.does.writes_u ∙ sym q.does.writes_u,
   p.does.writes_v ∙ sym q.does.writes_v,

@@ -35,7 +35,7 @@ search-sound-requires c κs =
     let p = z.requires.0 in
     let h = z.requires.1 in
     record {
-      prepared = record { ranged = p.ranged; some = p.some; few = h; room-table = pow_mono h; room_js = omega arith };
+      prepared = record { ranged = p.ranged; some = p.some; few = h; room_table = pow_mono h; room_js = omega arith };
       room_u = omega arith;
       room_v = omega arith;
       room_w = omega arith;

@@ -1,0 +1,12 @@
+use mathlib.Core.Path.{◌≡◌}
+use Prim.Native.Nat.{◌-◌, ◌^◌}
+use Rattle.subsets.specs.Subsets.{lowest}
+use Rattle.subsets.proofs.Digits.{Sub}
+use Rattle.subsets.proofs.KeptParts.{found}
+use Rattle.search.proofs.kept.kept.Given as goal
+
+abbrev pub invariant-loop-other : goal.invariant-loop-other
+invariant-loop-other l = Sub l.other (l.s - 2 ^ lowest l.s) × (found l.d l.table l.s l.goal l.other ≡ found l.d l.table l.s l.goal l.rest)
+
+abbrev pub decreases-loop-other : goal.decreases-loop-other
+decreases-loop-other l = l.other
