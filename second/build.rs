@@ -7,7 +7,7 @@ use std::process::Command;
 
 /// Where the library lies unless SKEPRAFTER_LIB says otherwise, seen from
 /// this package.
-const USUAL_FOLDER: &str = "../target/staticlib";
+const USUAL_FOLDER: &str = "../crates/skeprafter_c/out";
 /// Where the peers lie, seen from this package, and their files.
 const PEERS_FOLDER: &str = "../peers";
 const PEERS: [&str; 3] = ["join", "search", "embed"];
