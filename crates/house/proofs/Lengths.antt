@@ -1,7 +1,7 @@
 -- How long the files are, and how one begins as another.
 use mathlib.Core.Path.{◌≡◌}
 use mathlib.Core.List.{List, ◌++◌, append-nil, append_assoc}
-use Prim.Native.Nat.{ℕ, ◌+◌, ◌-◌, ◌*◌, ◌<◌}
+use Prim.Native.Nat.{ℕ, ◌+◌, ◌*◌, ◌<◌}
 use native.Mathlib.Omega.{arith}
 use lib.IntN.{ℤ}
 use lib.ListN.{length, length-append}

@@ -1,5 +1,5 @@
 -- What a reader may do. "Reading checks 8, 2 to 6, 9, 7"; "an acceptance changes only the entries that the answer needs, from the front".
-use Rattle.std.specs.Prelude.{◌≡◌, List, ℕ, ◌-◌, ℤ, length}
+use Rattle.std.specs.Prelude.{◌≡◌, List, ℕ, ℤ, length}
 use Rattle.lists.specs.Grow.{front}
 use Rattle.plane.specs.Said.{Said, refused_by, after, if_answered}
 use Rattle.plane.specs.Said.Said.{answered}

@@ -32,7 +32,7 @@ use Rattle.search.specs.Rooms.{check_rooms, check_search}
 use Rattle.search.specs.Searching.{found, joins_found, kept_joins, table_of}
 use Rattle.subsets.specs.Square.{Square, Widths, held, widest}
 use Rattle.subsets.specs.Subsets.{diam}
-use Rattle.subsets.specs.Table.{steps, table_after}
+use Rattle.subsets.specs.Table.{table_after}
 use Rattle.subsets.proofs.Agree.{kept_agree, table_agree}
 use Rattle.subsets.proofs.Distances.{widest_all}
 use Rattle.subsets.proofs.Filling.{after_length}

@@ -1,6 +1,6 @@
 -- Doubled places: their distance is the Manhattan distance in half units, and a position in quarters is exact.
 use mathlib.Core.Path.{◌≡◌}
-use Prim.Native.Nat.{ℕ, ◌+◌, ◌*◌}
+use Prim.Native.Nat.{ℕ, ◌*◌}
 use native.Mathlib.Omega.{arith}
 use lib.IntN.{ℤ, pos, ◌+ℤ◌, ◌-ℤ◌, ◌*ℤ◌, nat_abs}
 use Rattle.zero_skew.specs.Plane.{Sinks, dist, scaled, u, v, twice, quarters, away}

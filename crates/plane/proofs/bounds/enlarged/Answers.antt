@@ -1,6 +1,6 @@
 use mathlib.Core.Path.{◌≡◌, sym, ap, ◌∙◌}
 use native.Mathlib.Omega.{arith}
-use borrow.Author.Tests.{not-false, ltb-false}
+use borrow.Author.Tests.{ltb-false}
 use mir.Facts.{to_z-of_z}
 use Rattle.lists.proofs.Tests.{and_both}
 use Rattle.measures.specs.Range.{in_range}

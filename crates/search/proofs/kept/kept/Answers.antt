@@ -3,7 +3,6 @@ use Prim.Native.Nat.{ℕ, ◌<◌, ◌-◌, ◌^◌}
 use native.Mathlib.Omega.{arith}
 use lib.ListN.{get_or}
 use lib.Bits.{bit_and, and_le_l, and_self}
-use Rattle.subsets.specs.Kept.{kept_part}
 use Rattle.subsets.specs.Square.{held}
 use Rattle.subsets.specs.Subsets.{lowest}
 use Rattle.subsets.proofs.Digits.{Sub, low_le, self_lt, sub_and, sub_le}
