@@ -32,7 +32,7 @@ pub extern "C" fn skeprafter_box_of(
     }
 }
 
-// A box by value, lent to the library's `widen`, which widens it where it stands. It is a function of its own because the prover's own walk makes no `&mut` of a struct: its proof is a walk by hand.
+// A box by value, lent to the library's `widen`, which widens it where it stands.
 fn lent(b: Box, x: i32, y: i32, delay: u32) -> Widening
     ensures { library.Widens (bounds b) x y delay (bounds result.held) (told_check result.said) }
 {

@@ -5,6 +5,6 @@
 mod boxes;
 mod budget;
 mod files;
+mod printed;
 mod said;
-mod text;
 mod trees;
