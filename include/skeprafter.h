@@ -1,7 +1,7 @@
 /*
  * skeprafter.h: zero-skew clock trees over a proved library.
  *
- * Link with libskeprafter_c.a (x86-64). All that a call leaves behind is in
+ * Link with libskeprafter_c.a (x86-64-v2). All that a call leaves behind is in
  * what it was lent.
  *
  * Measures. A sink has whole x and y from -1,000,000 to 1,000,000 and a whole

@@ -1,4 +1,4 @@
--- Document 01, "Table of checked examples": P1 to P12 and further rows, as one table under one statement, `table-holds` (proofs/Holds.antt).
+-- Document 01, "Table of checked examples": P1 to P12 and further rows, as one table under one statement, `table_holds` (proofs/Holds.antt).
 use Rattle.std.specs.Prelude.{true, List, [], ◌∷◌, ◌++◌, pos, negsuc, replicate}
 use Rattle.plane.specs.Said.Said.{answered}
 use Rattle.examples.specs.Calls.Call.{say}

@@ -56,6 +56,6 @@ places_v s js = tab (value s (v s) js) (2 * s.n - 1)
 abbrev pub wires : Sinks → List ℕ → List ℕ
 wires s js = tab (wire s js) (2 * s.n - 1)
 
--- "the total is the sum of d over joins plus d(root) minus twice the sum of w" (the difference is never cut short at 0: proofs/Theorem4, `not-cut`)
+-- "the total is the sum of d over joins plus d(root) minus twice the sum of w" (the difference is never cut short at 0: proofs/Theorem4, `not_cut`)
 abbrev pub total : Sinks → List ℕ → ℕ
 total s js = sum_to (λ i. d s js (s.n + i)) (s.n - 1) + d s js (2 * s.n - 2) - 2 * sum_to s.wait s.n
