@@ -2,7 +2,7 @@
 use mathlib.Core.Path.{◌≡◌, refl, sym, ap, ◌∙◌}
 use mathlib.Core.Bool.{Bool, true, false, ◌||◌}
 use mathlib.Core.List.{List}
-use Prim.Native.Nat.{ℕ, ◌+◌, ◌*◌, ◌<◌}
+use Prim.Native.Nat.{ℕ, ◌+◌, ◌-◌, ◌*◌, ◌≤◌, ◌<◌}
 use native.Mathlib.Omega.{arith}
 use native.Mathlib.Numerals.{add-one}
 use borrow.Author.Tests.{eq-eqb, eqb-true, eqb-false, leb-false}
@@ -77,3 +77,8 @@ pair_low a b t e =
     let x = or_no (eqb a b) _ e in
     let y = or_no (leb t a) _ x.1 in
     (leb-false t a y.0, leb-false t b y.1)
+
+pub pair_small : (n i a b : ℕ) → n ≤ 512 → i < n - 1 → (eqb a b || (leb (n + i) a || leb (n + i) b)) ≡ false → (a < 1023) × (b < 1023)
+pair_small n i a b few h e =
+    let f = pair_low a b (n + i) e in
+    (omega (arith, f.0, few, h), omega (arith, f.1, few, h))

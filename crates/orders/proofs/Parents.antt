@@ -25,6 +25,10 @@ module _ (n : ℕ) (js : List ℕ) (o : Ordered n js) where
       (λ e. let q : get_or js j 0 ≡ left js (j / 2) = ap (λ (m : ℕ). get_or js m 0) e in omega (arith, o.valid.low_left (j / 2) (omega arith)))
       (λ e. let q : get_or js j 0 ≡ right js (j / 2) = ap (λ (m : ℕ). get_or js m 0) e in omega (arith, o.valid.low_right (j / 2) (omega arith)))
 
+  -- the flags and the list of parents, for 1,023 nodes, have a place for each node that an entry names
+  pub entry_small : (j : ℕ) {k : ℕ} → k ≡ get_or js j 0 → j < length js → k < 1023
+  entry_small j e h = omega (arith, o.few, o.valid.count, entry_low j (omega (arith, o.valid.count)))
+
   -- the entry that names node k
   abbrev at : ℕ → ℕ
   at k = first (λ j. eqb (get_or js j 0) k) 0 (length js)

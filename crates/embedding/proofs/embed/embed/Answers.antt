@@ -1,7 +1,5 @@
-use mathlib.Core.Path.{◌≡◌, refl, sym, ◌∙◌}
+use mathlib.Core.Path.{refl, sym, ◌∙◌}
 use native.Mathlib.Omega.{arith}
-use Rattle.plane.specs.declared.refusal.Checked.TheVariants.{Fine}
-use Rattle.orders.specs.Joins.{check_order}
 use Rattle.embedding.specs.Embedding.{answer}
 use Rattle.embedding.proofs.Rooms.{has_room}
 use Rattle.orders.proofs.Bounded.{order-sound}
@@ -14,19 +12,18 @@ returns-in-Refused c =
     record { answers = rw q; writes_u = refl; writes_v = refl; writes_w = refl }
 
 pub overflow_sub-xs : goal.overflow_sub-xs
-overflow_sub-xs c = omega (arith, (order-sound _ _ _ _ ((let order-fine : check_order c.args.xs.now c.args.ys.now c.args.delays.now c.args.js.now ≡ Fine = sym c.check_order-said.ensures ∙ c.in_default.is in order-fine))).joins.some)
+overflow_sub-xs c = omega (arith, (order-sound _ _ _ _ (sym c.check_order-said.ensures ∙ c.in_default.is)).joins.some)
 
 pub returns-in-Refused-rooms : goal.returns-in-Refused-rooms
 unfolding answer
 returns-in-Refused-rooms c =
     let q = sym c.check_room-rooms.ensures ∙ c.in-Refused-rooms.is in
-    record { answers = rw ((let order-fine : check_order c.args.xs.now c.args.ys.now c.args.delays.now c.args.js.now ≡ Fine = sym c.check_order-said.ensures ∙ c.in_default.is in order-fine), q); writes_u = refl; writes_v = refl; writes_w = refl }
+    record { answers = rw ((sym c.check_order-said.ensures ∙ c.in_default.is), q); writes_u = refl; writes_v = refl; writes_w = refl }
 
 pub embed_sound-requires : goal.embed_sound-requires
 embed_sound-requires c =
-    let p = c in
-    let (a, b, e) = has_room _ _ _ _ (sym p.check_room-rooms.ensures ∙ p.in_default-rooms.is) in
-    record { sound = order-sound _ _ _ _ ((let order-fine : check_order c.args.xs.now c.args.ys.now c.args.delays.now c.args.js.now ≡ Fine = sym c.check_order-said.ensures ∙ c.in_default.is in order-fine)); room_u = a; room_v = b; room_w = e }
+    let (a, b, e) = has_room _ _ _ _ (sym c.check_room-rooms.ensures ∙ c.in_default-rooms.is) in
+    record { sound = order-sound _ _ _ _ (sym c.check_order-said.ensures ∙ c.in_default.is); room_u = a; room_v = b; room_w = e }
 
 pub shape_of-us : goal.shape_of-us
 shape_of-us c = c.embed_sound.auto.us
@@ -41,6 +38,5 @@ pub returns : goal.returns
 unfolding answer
 returns c =
     let e = c.embed_sound.ensures in
-    let p = c in
-    let q = sym p.check_room-rooms.ensures ∙ p.in_default-rooms.is in
-    record { answers = rw ((let order-fine : check_order c.args.xs.now c.args.ys.now c.args.delays.now c.args.js.now ≡ Fine = sym c.check_order-said.ensures ∙ c.in_default.is in order-fine), q, e.sums); writes_u = e.writes_u; writes_v = e.writes_v; writes_w = e.writes_w }
+    let q = sym c.check_room-rooms.ensures ∙ c.in_default-rooms.is in
+    record { answers = rw ((sym c.check_order-said.ensures ∙ c.in_default.is), q, e.sums); writes_u = e.writes_u; writes_v = e.writes_v; writes_w = e.writes_w }

@@ -10,13 +10,11 @@ read_field-requires c = tt
 
 pub returns-in-Bad : goal.returns-in-Bad
 returns-in-Bad c =
-    let l = c in
-    scan_bad _ _ _ _ l.loop-tag.invariant _ c.loop-tag-test.true (sym c.read_field.ensures ∙ c.in-Bad.is)
+    scan_bad _ _ _ _ c.loop-tag.invariant _ c.loop-tag-test.true (sym c.read_field.ensures ∙ c.in-Bad.is)
 
 pub loop-tag-preserved : goal.loop-tag-preserved
 loop-tag-preserved c =
-    let l = c in
-    scan_next _ _ _ _ l.loop-tag.invariant _ c.loop-tag-test.true (sym c.read_field.ensures ∙ c.in-Until.is)
+    scan_next _ _ _ _ c.loop-tag.invariant _ c.loop-tag-test.true (sym c.read_field.ensures ∙ c.in-Until.is)
 
 pub returns-then-at-file : goal.returns-then-at-file
 returns-then-at-file c =

@@ -12,27 +12,24 @@ returns-then-is_wrong_length c = simp (rw c.read2.ensures at (sym c.is_wrong_len
 pub returns-then-file-next : goal.returns-then-file-next
 unfolding body_at
 returns-then-file-next c =
-    let b = c in
     simp (
-      rw b.read2.ensures at (sym b.is_wrong_length.ensures ∙ b.if-is_wrong_length.false),
+      rw c.read2.ensures at (sym c.is_wrong_length.ensures ∙ c.if-is_wrong_length.false),
       lt-ltb _ _ (rw c.next_at-next.ensures at c.if-file-next.true),
     )
 
 pub bounds-file-at : goal.bounds-file-at
 bounds-file-at c =
-    let b = c in
-    let a = b.args in
-    let w = rw b.read2.ensures at (sym b.is_wrong_length.ensures ∙ b.if-is_wrong_length.false) in
+    let a = c.args in
+    let w = rw c.read2.ensures at (sym c.is_wrong_length.ensures ∙ c.if-is_wrong_length.false) in
     let n = one_byte a.tag (length_at a.file.now a.at) c.if-tag-eq1.true w in
     omega (arith, n)
 
 pub returns-then-file-at-ne1 : goal.returns-then-file-at-ne1
 unfolding body_at
 returns-then-file-at-ne1 c =
-    let b = c in
-    let e = b.next_at-next.ensures in
+    let e = c.next_at-next.ensures in
     rw (
-      rw b.read2.ensures at (sym b.is_wrong_length.ensures ∙ b.if-is_wrong_length.false),
+      rw c.read2.ensures at (sym c.is_wrong_length.ensures ∙ c.if-is_wrong_length.false),
       le-ltb _ _ (rw e at c.if-file-next.false),
       eq-eqb _ _ c.if-tag-eq1.true,
       ne_eqb _ _ c.if-file-at-ne1.true,
@@ -41,10 +38,9 @@ returns-then-file-at-ne1 c =
 pub returns-else-file-at-ne1 : goal.returns-else-file-at-ne1
 unfolding body_at
 returns-else-file-at-ne1 c =
-    let b = c in
-    let e = b.next_at-next.ensures in
+    let e = c.next_at-next.ensures in
     rw (
-      rw b.read2.ensures at (sym b.is_wrong_length.ensures ∙ b.if-is_wrong_length.false),
+      rw c.read2.ensures at (sym c.is_wrong_length.ensures ∙ c.if-is_wrong_length.false),
       le-ltb _ _ (rw e at c.if-file-next.false),
       eq-eqb _ _ c.if-tag-eq1.true,
       eq-eqb _ _ c.if-file-at-ne1.false,
@@ -54,10 +50,9 @@ returns-else-file-at-ne1 c =
 pub returns-else-tag-eq1 : goal.returns-else-tag-eq1
 unfolding body_at
 returns-else-tag-eq1 c =
-    let b = c in
-    let e = b.next_at-next.ensures in
+    let e = c.next_at-next.ensures in
     rw (
-      rw b.read2.ensures at (sym b.is_wrong_length.ensures ∙ b.if-is_wrong_length.false),
+      rw c.read2.ensures at (sym c.is_wrong_length.ensures ∙ c.if-is_wrong_length.false),
       le-ltb _ _ (rw e at c.if-file-next.false),
       ne_eqb _ _ c.if-tag-eq1.false,
       e,

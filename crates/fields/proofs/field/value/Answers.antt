@@ -19,9 +19,8 @@ next_at-next-requires c =
 
 pub slice_bounds-result-end : goal.slice_bounds-result-end
 slice_bounds-result-end c =
-    let b = c in
-    let g = formed_next (b.args.tag - 1) (omega arith) b.requires.1 in
-    let q : c.next_at-next.result ≤ length b.args.file.now = rw (c.next_at-next.ensures, c.past_fields-at.ensures) g in
+    let g = formed_next (c.args.tag - 1) (omega arith) c.requires.1 in
+    let q : c.next_at-next.result ≤ length c.args.file.now = rw (c.next_at-next.ensures, c.past_fields-at.ensures) g in
     omega arith
 
 pub returns : goal.returns

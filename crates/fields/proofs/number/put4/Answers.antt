@@ -5,7 +5,6 @@ use Rattle.fields.proofs.number.put4.Goals as goal
 
 pub returns : goal.returns
 returns c =
-    let b = c in
-    let a = b.args in
-    put_two a.out.now a.at 2 b.put2.ensures refl c.put2-2.ensures refl
+    let a = c.args in
+    put_two a.out.now a.at 2 c.put2.ensures refl c.put2-2.ensures refl
     ∙ sym (ap (sets a.out.now a.at) (big-halves a.n))

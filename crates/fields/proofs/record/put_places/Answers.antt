@@ -6,7 +6,5 @@ use Rattle.fields.proofs.record.put_places.Goals as goal
 
 pub returns : goal.returns
 returns c =
-    let p = c in
-    let h = p in
-    let a = h.args in
-    field_put a.tag (places a.xs.now a.ys.now) (sym (length-places a.xs.now a.ys.now)) h.put_header.ensures p.put_each_place.ensures refl
+    let a = c.args in
+    field_put a.tag (places a.xs.now a.ys.now) (sym (length-places a.xs.now a.ys.now)) c.put_header.ensures c.put_each_place.ensures refl

@@ -15,11 +15,9 @@ value-requires c =
 
 pub value-requires-2 : goal.value-requires-2
 value-requires-2 c =
-    let t = c in
-    (omega arith, formed 3 _ (sym t.check_form-formed.ensures ∙ t.in_default.is))
+    (omega arith, formed 3 _ (sym c.check_form-formed.ensures ∙ c.in_default.is))
 
 pub returns : goal.returns
 unfolding check_joined_file
 returns c =
-    let t = c in
-    rw (sym t.check_form-formed.ensures ∙ t.in_default.is, sym c.value.ensures, sym c.value-2.ensures) c.check_values.ensures
+    rw (sym c.check_form-formed.ensures ∙ c.in_default.is, sym c.value.ensures, sym c.value-2.ensures) c.check_values.ensures

@@ -13,11 +13,9 @@ returns-in-Refused c =
 pub take_joins-requires : goal.take_joins-requires
 unfolding check_joined_file
 take_joins-requires c =
-    let t = c in
     let f = c.args.file.now in
-    formed 3 f (both_pass (form 3 f) _ (sym t.check_joined_file-said.ensures ∙ t.in_default.is)).0
+    formed 3 f (both_pass (form 3 f) _ (sym c.check_joined_file-said.ensures ∙ c.in_default.is)).0
 
 pub returns : goal.returns
 returns c =
-    let t = c in
-    joins_passed (sym t.check_joined_file-said.ensures ∙ t.in_default.is) c.take_joins.ensures
+    joins_passed (sym c.check_joined_file-said.ensures ∙ c.in_default.is) c.take_joins.ensures

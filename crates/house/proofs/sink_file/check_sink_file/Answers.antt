@@ -15,5 +15,4 @@ value-requires c =
 pub returns : goal.returns
 unfolding check_sink_file
 returns c =
-    let t = c in
-    rw (sym t.check_form-formed.ensures ∙ t.in_default.is, sym c.value.ensures) c.check_places.ensures
+    rw (sym c.check_form-formed.ensures ∙ c.in_default.is, sym c.value.ensures) c.check_places.ensures

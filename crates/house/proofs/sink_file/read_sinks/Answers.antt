@@ -13,11 +13,9 @@ returns-in-Refused c =
 pub take_sinks-requires : goal.take_sinks-requires
 unfolding check_sink_file
 take_sinks-requires c =
-    let t = c in
-    let f = t.args.file.now in
-    formed 2 f (both_pass (form 2 f) _ (sym t.check_sink_file-said.ensures ∙ t.in_default.is)).0
+    let f = c.args.file.now in
+    formed 2 f (both_pass (form 2 f) _ (sym c.check_sink_file-said.ensures ∙ c.in_default.is)).0
 
 pub returns : goal.returns
 returns c =
-    let t = c in
-    sinks_passed (sym t.check_sink_file-said.ensures ∙ t.in_default.is) c.take_sinks.ensures
+    sinks_passed (sym c.check_sink_file-said.ensures ∙ c.in_default.is) c.take_sinks.ensures

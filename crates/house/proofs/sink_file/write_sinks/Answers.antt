@@ -14,21 +14,18 @@ returns-in-Refused c =
 
 pub returns-then-out-xs : goal.returns-then-out-xs
 returns-then-out-xs c =
-    let t = c in
-    let a = t.args in
+    let a = c.args in
     let l = length-sink_file a.xs.now a.ys.now in
     no_room ((let sinks_fine : check_sinks 512 c.args.xs.now c.args.ys.now (prompt c.args.xs.now) ≡ Fine = check_prompt 512 _ _ ∙ sym c.check_places-said.ensures ∙ c.in_default.is in sinks_fine)) (omega (arith, l))
 
 pub put_sinks-requires : goal.put_sinks-requires
 put_sinks-requires c =
-    let t = c in
-    let a = t.args in
+    let a = c.args in
     let m = accepted 512 a.xs.now a.ys.now (prompt a.xs.now) ((let sinks_fine : check_sinks 512 c.args.xs.now c.args.ys.now (prompt c.args.xs.now) ≡ Fine = check_prompt 512 _ _ ∙ sym c.check_places-said.ensures ∙ c.in_default.is in sinks_fine)) in
     (omega arith, m.ranged.alike, m.few)
 
 pub returns : goal.returns
 returns c =
-    let t = c in
-    let a = t.args in
+    let a = c.args in
     let l = length-sink_file a.xs.now a.ys.now in
     did_write ((let sinks_fine : check_sinks 512 c.args.xs.now c.args.ys.now (prompt c.args.xs.now) ≡ Fine = check_prompt 512 _ _ ∙ sym c.check_places-said.ensures ∙ c.in_default.is in sinks_fine)) (omega (arith, l)) c.put_sinks.ensures

@@ -27,6 +27,5 @@ returns c = lanewise_end c.loop-other.invariant (omega arith)
 
 pub loop-other-preserved : goal.loop-other-preserved
 loop-other-preserved c =
-    let b = c in
-    lanewise_turn b.requires.0 b.beyond-rest.ensures (omega arith) c.loop-other.invariant (omega arith) (omega arith)
+    lanewise_turn c.requires.0 c.beyond-rest.ensures (omega arith) c.loop-other.invariant (omega arith) (omega arith)
     c.meet.auto.sums c.meet.ensures

@@ -9,9 +9,8 @@ loop-k-init c = turning_start c.requires.0
 
 pub overflow_add-rows : goal.overflow_add-rows
 overflow_add-rows c =
-    let z = c in
     let k = c.loop-k.k in
-    omega (arith, z.requires.3 (z.args.a + k), z.requires.3 (z.args.b + k))
+    omega (arith, c.requires.3 (c.args.a + k), c.requires.3 (c.args.b + k))
 
 pub loop-k-preserved : goal.loop-k-preserved
 loop-k-preserved c = turning_more c.loop-k.invariant c.loop-k-test.true c.smaller.ensures

@@ -5,7 +5,6 @@ use Rattle.lanes.proofs.lanes.put_few.Goals as goal
 
 pub returns : goal.returns
 returns c =
-    let z = c in
-    let four = lays_join z.two.ensures z.two-2.ensures refl (omega arith) refl in
-    let six = lays_join four z.two-3.ensures refl (omega arith) refl in
+    let four = lays_join c.two.ensures c.two-2.ensures refl (omega arith) refl in
+    let six = lays_join four c.two-3.ensures refl (omega arith) refl in
     lays_join six c.put.ensures refl (omega arith) refl

@@ -7,8 +7,7 @@ use Rattle.lines.proofs.brackets.tree_line.Goals as goal
 pub subtree-end-requires : goal.subtree-end-requires
 unfolding second_line
 subtree-end-requires c =
-    let z = c in
-    (z.requires.0, omega (arith, z.requires.0.some), room_here (feed ∷ []) z.requires.1)
+    (c.requires.0, omega (arith, c.requires.0.some), room_here (feed ∷ []) c.requires.1)
 
 pub byte-requires : goal.byte-requires
 unfolding second_line

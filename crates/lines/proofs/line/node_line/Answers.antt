@@ -16,44 +16,38 @@ short k z h = decimal-length 3 k (omega (arith, z.up.few))
 
 pub number-a-requires : goal.number-a-requires
 number-a-requires c =
-    let z = c in
-    record { fits = omega (arith, short z.args.k z.requires.0 z.requires.1) }
+    record { fits = omega (arith, short c.args.k c.requires.0 c.requires.1) }
 
 pub place_field-b-requires : goal.place_field-b-requires
 place_field-b-requires c =
-    let z = c in
     let w = c.number-a.ensures in
-    (omega (arith, z.requires.0.tall_u), omega (arith, short z.args.k z.requires.0 z.requires.1, w.ends, written_size w))
+    (omega (arith, c.requires.0.tall_u), omega (arith, short c.args.k c.requires.0 c.requires.1, w.ends, written_size w))
 
 pub place_field-c-requires : goal.place_field-c-requires
 place_field-c-requires c =
-    let z = c in
     let w = c.number-a.ensures in
     let x = c.place_field-b.ensures in
-    (omega (arith, z.requires.0.tall_v), omega (arith, short z.args.k z.requires.0 z.requires.1, w.ends, written_size w, x.1, written_size x.0))
+    (omega (arith, c.requires.0.tall_v), omega (arith, short c.args.k c.requires.0 c.requires.1, w.ends, written_size w, x.1, written_size x.0))
 
 pub next_number-d-requires : goal.next_number-d-requires
 next_number-d-requires c =
-    let z = c in
     let w = c.number-a.ensures in
     let x = c.place_field-b.ensures in
     let y = c.place_field-c.ensures in
-    record { fits = omega (arith, short z.args.k z.requires.0 z.requires.1, w.ends, written_size w, x.1, written_size x.0, y.1, written_size y.0, decimal-length 9 c.wide.result (omega (arith, c.wide.ensures.1))) }
+    record { fits = omega (arith, short c.args.k c.requires.0 c.requires.1, w.ends, written_size w, x.1, written_size x.0, y.1, written_size y.0, decimal-length 9 c.wide.result (omega (arith, c.wide.ensures.1))) }
 
 pub parent_field-requires : goal.parent_field-requires
 parent_field-requires c =
-    let z = c in
     let w = c.number-a.ensures in
     let x = c.place_field-b.ensures in
     let y = c.place_field-c.ensures in
     let v = c.next_number-d.ensures in
     let d = decimal-length 9 c.wide.result (omega (arith, c.wide.ensures.1)) in
-    (z.requires.0.up, z.requires.1, omega (arith, short z.args.k z.requires.0 z.requires.1, w.ends, written_size w, x.1, written_size x.0, y.1, written_size y.0, v.ends, written_size v, d))
+    (c.requires.0.up, c.requires.1, omega (arith, short c.args.k c.requires.0 c.requires.1, w.ends, written_size w, x.1, written_size x.0, y.1, written_size y.0, v.ends, written_size v, d))
 
 pub returns : goal.returns
 returns c =
-    let z = c in
-    let a = z.args in
+    let a = c.args in
     let w = c.number-a.ensures in
     let x = c.place_field-b.ensures in
     let y = c.place_field-c.ensures in
@@ -62,5 +56,5 @@ returns c =
     let d = decimal-length 9 c.wide.result (omega (arith, c.wide.ensures.1)) in (
       rw (fields a.n a.ps.now a.us.now a.vs.now a.ws.now a.k)
           (then w (then x.0 (then y.0 (then (rw c.wide.ensures.0 at v) e.0)))),
-      omega (arith, short z.args.k z.requires.0 z.requires.1, w.ends, x.1, y.1, v.ends, d, e.1),
+      omega (arith, short c.args.k c.requires.0 c.requires.1, w.ends, x.1, y.1, v.ends, d, e.1),
     )

@@ -18,9 +18,8 @@ loop-k-init c = (omega arith, omega arith, nothing)
 
 pub node_line-end-requires : goal.node_line-end-requires
 node_line-end-requires c =
-    let z = c in
     let l = c.loop-k in
-    (z.requires.0, omega arith, omega (arith, l.invariant.1, z.requires.1, written_size l.invariant.2))
+    (c.requires.0, omega arith, omega (arith, l.invariant.1, c.requires.1, written_size l.invariant.2))
 
 pub overflow_add-k : goal.overflow_add-k
 overflow_add-k c = omega (arith, c.requires.0.up.few)

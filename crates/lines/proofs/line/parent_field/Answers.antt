@@ -8,29 +8,25 @@ use Rattle.lines.proofs.line.parent_field.Goals as goal
 
 pub returns-then-k-n : goal.returns-then-k-n
 returns-then-k-n c =
-    let z = c in
     let w = c.word.ensures in
-    (rw (field-root z.args.n z.args.ps.now z.args.k c.if-k-n.true) w, omega (arith, w.ends))
+    (rw (field-root c.args.n c.args.ps.now c.args.k c.if-k-n.true) w, omega (arith, w.ends))
 
 pub next_number-end-requires : goal.next_number-end-requires
 next_number-end-requires c =
-    let z = c in
-    let l : z.args.k < 2 * z.args.n - 2 = omega (arith, c.if-k-n.false) in
-    record { fits = omega (arith, decimal-length 3 (get_or z.args.ps.now z.args.k 0) (omega (arith, z.requires.0.low_p z.args.k l, z.requires.0.few))) }
+    let l : c.args.k < 2 * c.args.n - 2 = omega (arith, c.if-k-n.false) in
+    record { fits = omega (arith, decimal-length 3 (get_or c.args.ps.now c.args.k 0) (omega (arith, c.requires.0.low_p c.args.k l, c.requires.0.few))) }
 
 pub byte-requires : goal.byte-requires
 byte-requires c =
-    let z = c in
-    let l : z.args.k < 2 * z.args.n - 2 = omega (arith, c.if-k-n.false) in
+    let l : c.args.k < 2 * c.args.n - 2 = omega (arith, c.if-k-n.false) in
     let w = c.next_number-end.ensures in
-    record { fits = omega (arith, w.ends, written_size w, decimal-length 3 (get_or z.args.ps.now z.args.k 0) (omega (arith, z.requires.0.low_p z.args.k l, z.requires.0.few))) }
+    record { fits = omega (arith, w.ends, written_size w, decimal-length 3 (get_or c.args.ps.now c.args.k 0) (omega (arith, c.requires.0.low_p c.args.k l, c.requires.0.few))) }
 
 pub returns : goal.returns
 returns c =
-    let z = c in
-    let l : z.args.k < 2 * z.args.n - 2 = omega (arith, c.if-k-n.false) in
+    let l : c.args.k < 2 * c.args.n - 2 = omega (arith, c.if-k-n.false) in
     let w = c.next_number-end.ensures in
     let x = c.byte.ensures in (
-      rw (field_other z.args.n z.args.ps.now z.args.k c.if-k-n.false) (then w x),
-      omega (arith, w.ends, x.ends, decimal-length 3 (get_or z.args.ps.now z.args.k 0) (omega (arith, z.requires.0.low_p z.args.k l, z.requires.0.few))),
+      rw (field_other c.args.n c.args.ps.now c.args.k c.if-k-n.false) (then w x),
+      omega (arith, w.ends, x.ends, decimal-length 3 (get_or c.args.ps.now c.args.k 0) (omega (arith, c.requires.0.low_p c.args.k l, c.requires.0.few))),
     )

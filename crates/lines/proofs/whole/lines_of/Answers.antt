@@ -6,29 +6,25 @@ use Rattle.lines.proofs.whole.lines_of.Goals as goal
 
 pub first_line-a-requires : goal.first_line-a-requires
 first_line-a-requires c =
-    let z = c in
-    record { fits = omega (arith, first_length z.args.n z.args.total z.args.proven z.requires.0.few z.ranges.total.fits, z.requires.3) }
+    record { fits = omega (arith, first_length c.args.n c.args.total c.args.proven c.requires.0.few c.ranges.total.fits, c.requires.3) }
 
 pub tree_line-b-requires : goal.tree_line-b-requires
 tree_line-b-requires c =
-    let z = c in
     let w = c.first_line-a.ensures in
-    (z.requires.0, record { fits = omega (arith, first_length z.args.n z.args.total z.args.proven z.requires.0.few z.ranges.total.fits, second_length z.args.n z.args.js.now z.requires.0, w.ends, written_size w, z.requires.3) })
+    (c.requires.0, record { fits = omega (arith, first_length c.args.n c.args.total c.args.proven c.requires.0.few c.ranges.total.fits, second_length c.args.n c.args.js.now c.requires.0, w.ends, written_size w, c.requires.3) })
 
 pub node_lines-requires : goal.node_lines-requires
 node_lines-requires c =
-    let z = c in
     let w = c.first_line-a.ensures in
     let x = c.tree_line-b.ensures in
-    (z.requires.2, omega (arith, first_length z.args.n z.args.total z.args.proven z.requires.0.few z.ranges.total.fits, second_length z.args.n z.args.js.now z.requires.0, w.ends, written_size w, x.ends, written_size x, z.requires.3, z.requires.0.few))
+    (c.requires.2, omega (arith, first_length c.args.n c.args.total c.args.proven c.requires.0.few c.ranges.total.fits, second_length c.args.n c.args.js.now c.requires.0, w.ends, written_size w, x.ends, written_size x, c.requires.3, c.requires.0.few))
 
 pub returns : goal.returns
 returns c =
-    let z = c in
-    let a = z.args in
+    let a = c.args in
     let w = c.first_line-a.ensures in
     let x = c.tree_line-b.ensures in
     let y = c.node_lines.ensures in (
-      rw (text_with a.n a.total a.proven a.js.now a.ps.now a.us.now a.vs.now a.ws.now z.requires.1) (then w (then x y.0)),
-      omega (arith, first_length z.args.n z.args.total z.args.proven z.requires.0.few z.ranges.total.fits, second_length a.n a.js.now z.requires.0, w.ends, x.ends, y.1, z.requires.0.few),
+      rw (text_with a.n a.total a.proven a.js.now a.ps.now a.us.now a.vs.now a.ws.now c.requires.1) (then w (then x y.0)),
+      omega (arith, first_length c.args.n c.args.total c.args.proven c.requires.0.few c.ranges.total.fits, second_length a.n a.js.now c.requires.0, w.ends, x.ends, y.1, c.requires.0.few),
     )

@@ -5,8 +5,7 @@ use Rattle.lines.proofs.whole.tree_text.Goals as goal
 
 pub lines_of-requires : goal.lines_of-requires
 lines_of-requires c =
-    let z = c in
-    let o = z.requires.0.ordered in
+    let o = c.requires.0.ordered in
     let p = c.parents-ps in (
       o,
       p.ensures,
@@ -15,13 +14,13 @@ lines_of-requires c =
           some = o.some;
           few = o.few;
           tall_p = omega (arith, o.few, p.type_inv);
-          low_p = λ k h. rw (p.ensures k h) (parent_above z.args.n z.args.js.now o k h).1;
+          low_p = λ k h. rw (p.ensures k h) (parent_above c.args.n c.args.js.now o k h).1;
         };
-        tall_u = z.requires.0.tall_u;
-        tall_v = z.requires.0.tall_v;
-        tall_w = z.requires.0.tall_w;
+        tall_u = c.requires.0.tall_u;
+        tall_v = c.requires.0.tall_v;
+        tall_w = c.requires.0.tall_w;
       },
-      z.requires.1,
+      c.requires.1,
     )
 
 pub returns : goal.returns

@@ -3,13 +3,11 @@ use Rattle.nearest.proofs.tree.tree_sound.Goals as goal
 
 pub embed_sound-requires : goal.embed_sound-requires
 embed_sound-requires c =
-    let s = c in
-    let o = order_taken s.args.xs.now s.args.ys.now s.args.delays.now s.args.js.now c.order_sound.new.js c.order_sound.ensures in
-    rw o (record { sound = order_sounds s.requires.ready; room_u = s.requires.room_u; room_v = s.requires.room_v; room_w = s.requires.room_w })
+    let o = order_taken c.args.xs.now c.args.ys.now c.args.delays.now c.args.js.now c.order_sound.new.js c.order_sound.ensures in
+    rw o (record { sound = order_sounds c.requires.ready; room_u = c.requires.room_u; room_v = c.requires.room_v; room_w = c.requires.room_w })
 
 pub returns : goal.returns
 returns c =
-    let s = c in
-    let o = order_taken s.args.xs.now s.args.ys.now s.args.delays.now s.args.js.now c.order_sound.new.js c.order_sound.ensures in
+    let o = order_taken c.args.xs.now c.args.ys.now c.args.delays.now c.args.js.now c.order_sound.new.js c.order_sound.ensures in
     let e = rw o at c.embed_sound.ensures in
     record { sums = e.sums; writes_j = c.order_sound.ensures; writes_u = e.writes_u; writes_v = e.writes_v; writes_w = e.writes_w }

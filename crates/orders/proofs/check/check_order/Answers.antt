@@ -1,6 +1,4 @@
-use mathlib.Core.Path.{◌≡◌, sym, ◌∙◌}
-use Rattle.plane.specs.Sinks.{check_sinks}
-use Rattle.plane.specs.declared.refusal.Checked.TheVariants.{Fine}
+use mathlib.Core.Path.{sym, ◌∙◌}
 use Rattle.plane.proofs.Checks.{accepted}
 use Rattle.orders.specs.Joins.{check_order}
 use Rattle.orders.proofs.check.check_order.Goals as goal
@@ -10,8 +8,8 @@ unfolding check_order
 returns-in-Refused c = rw (sym c.check_sinks-said.ensures ∙ c.in-Refused.is)
 
 pub check_joins-requires : goal.check_joins-requires
-check_joins-requires c = let m = accepted 512 _ _ _ ((let fine : check_sinks 512 c.args.xs.now c.args.ys.now c.args.delays.now ≡ Fine = sym c.check_sinks-said.ensures ∙ c.in_default.is in fine)) in (m.some, m.few)
+check_joins-requires c = let m = accepted 512 _ _ _ (sym c.check_sinks-said.ensures ∙ c.in_default.is) in (m.some, m.few)
 
 pub returns : goal.returns
 unfolding check_order
-returns c = rw ((let fine : check_sinks 512 c.args.xs.now c.args.ys.now c.args.delays.now ≡ Fine = sym c.check_sinks-said.ensures ∙ c.in_default.is in fine)) c.check_joins.ensures
+returns c = rw (sym c.check_sinks-said.ensures ∙ c.in_default.is) c.check_joins.ensures

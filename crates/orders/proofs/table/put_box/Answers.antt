@@ -14,6 +14,5 @@ bounds-bs-at-4 c = simp length-set (omega (arith, c.requires))
 
 pub returns : goal.returns
 returns c =
-    let s = c in
     rw (c.kept-4.ensures, c.kept-3.ensures, c.kept-2.ensures, c.kept.ensures)
-    (puts_of s.args.bs.now s.args.k s.args.b s.requires)
+    (puts_of c.args.bs.now c.args.k c.args.b c.requires)

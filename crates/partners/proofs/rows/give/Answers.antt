@@ -8,5 +8,4 @@ bounds-rows-t-2 c = simp length-set (omega (arith, c.requires.0, c.requires.1))
 
 pub returns : goal.returns
 returns c =
-    let s = c in
-    wrote_row (wrote_more 5 s.args.q.at (omega arith) (wrote_more 4 s.args.q.far (omega arith) (wrote_begin s.args.rows.now s.args.t s.requires.0 s.requires.1)))
+    wrote_row (wrote_more 5 c.args.q.at (omega arith) (wrote_more 4 c.args.q.far (omega arith) (wrote_begin c.args.rows.now c.args.t c.requires.0 c.requires.1)))

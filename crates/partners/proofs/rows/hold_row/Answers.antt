@@ -11,7 +11,6 @@ bounds-rows-t-4 c = simp length-set (omega (arith, c.requires.0, c.requires.1))
 
 pub returns : goal.returns
 returns c =
-    let s = c in
-    wrote_held s.args.b s.args.m s.args.rows.now s.args.t (wrote_begin s.args.rows.now s.args.t s.requires.0 s.requires.1) refl c.span-e.ensures
+    wrote_held c.args.b c.args.m c.args.rows.now c.args.t (wrote_begin c.args.rows.now c.args.t c.requires.0 c.requires.1) refl c.span-e.ensures
     (elim c.if-nearer.branch [ then-nearer w ↦ rw (lt-ltb _ _ w.if-nearer.true) w.rows-is | else-nearer w ↦ rw (le-ltb _ _ w.if-nearer.false) w.rows-is ])
     (elim c.if-nearer-2.branch [ then-nearer-2 w ↦ rw (lt-ltb _ _ w.if-nearer-2.true) w.rows-is | else-nearer-2 w ↦ rw (le-ltb _ _ w.if-nearer-2.false) w.rows-is ])

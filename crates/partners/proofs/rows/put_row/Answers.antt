@@ -14,6 +14,5 @@ bounds-rows-t-4 c = simp length-set (omega (arith, c.requires.0, c.requires.1))
 
 pub returns : goal.returns
 returns c =
-    let s = c in
     rw (c.kept-4.ensures, c.kept-3.ensures, c.kept-2.ensures, c.kept.ensures)
-    (wrote_box s.args.b s.args.rows.now s.args.t s.requires.0 s.requires.1)
+    (wrote_box c.args.b c.args.rows.now c.args.t c.requires.0 c.requires.1)

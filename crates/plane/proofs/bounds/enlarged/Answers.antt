@@ -34,12 +34,11 @@ sink_box-requires c =
 
 pub returns : goal.returns
 returns c =
-    let b = c in
-    let a = b.args in
-    let f = b.ranges.x in
-    let g = b.ranges.y in
-    let t = sym (simp to_z-of_z at b.inside.ensures) ∙ b.if-not-inside.false in
-    let l = sym b.is_late.ensures ∙ b.if-is_late.false in
+    let a = c.args in
+    let f = c.ranges.x in
+    let g = c.ranges.y in
+    let t = sym (simp to_z-of_z at c.inside.ensures) ∙ c.if-not-inside.false in
+    let l = sym c.is_late.ensures ∙ c.if-is_late.false in
     let (p, q) = and_both (in_range a.x) (in_range a.y) t in
     let e : c.hull.result ≡ hull_of a.b (sink_box a.x a.y a.w) = rw (c.hull.ensures, simp to_z-of_z at c.sink_box.ensures) in
     let h = ltb-false 1000000 a.w l in

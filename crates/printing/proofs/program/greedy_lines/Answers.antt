@@ -36,10 +36,8 @@ tree_sound-total-requires c =
 
 pub tree_text-requires : goal.tree_text-requires
 tree_text-requires c =
-    let z = c in
-    (built_grown (sinks_at z.args.xs.now z.args.ys.now z.args.delays.now) (order_at z.args.xs.now z.args.ys.now z.args.delays.now) (built z.args.xs.now z.args.ys.now z.args.delays.now z.requires.0.some z.requires.0.few c.tree_sound-total.ensures), z.requires.1)
+    (built_grown (sinks_at c.args.xs.now c.args.ys.now c.args.delays.now) (order_at c.args.xs.now c.args.ys.now c.args.delays.now) (built c.args.xs.now c.args.ys.now c.args.delays.now c.requires.0.some c.requires.0.few c.tree_sound-total.ensures), c.requires.1)
 
 pub returns : goal.returns
 returns c =
-    let z = c in
-    rw (built_text (sinks_at z.args.xs.now z.args.ys.now z.args.delays.now) (order_at z.args.xs.now z.args.ys.now z.args.delays.now) (built z.args.xs.now z.args.ys.now z.args.delays.now z.requires.0.some z.requires.0.few c.tree_sound-total.ensures) false) at c.tree_text.ensures
+    rw (built_text (sinks_at c.args.xs.now c.args.ys.now c.args.delays.now) (order_at c.args.xs.now c.args.ys.now c.args.delays.now) (built c.args.xs.now c.args.ys.now c.args.delays.now c.requires.0.some c.requires.0.few c.tree_sound-total.ensures) false) at c.tree_text.ensures

@@ -11,9 +11,8 @@ use Rattle.printing.proofs.program.proven_lines.Goals as goal
 
 pub search_sound-found-requires : goal.search_sound-found-requires
 search_sound-found-requires c =
-    let z = c in
-    let p = z.requires.0 in
-    let h = z.requires.1 in
+    let p = c.requires.0 in
+    let h = c.requires.1 in
     record {
       prepared = record { ranged = p.ranged; some = p.some; few = h; room_table = pow_mono h; room_js = omega arith };
       room_u = omega arith;
@@ -23,14 +22,12 @@ search_sound-found-requires c =
 
 pub tree_text-requires : goal.tree_text-requires
 tree_text-requires c =
-    let z = c in
     let m = rw c.all_steps.ensures at c.search_sound-found.ensures in
-    let s = sinks_at z.args.xs.now z.args.ys.now z.args.delays.now in
-    (built_grown s (joins_found s (step_count (length z.args.xs.now))) (searched_built z.args.xs.now z.args.ys.now z.args.delays.now z.requires.0 z.requires.1 m), z.requires.2)
+    let s = sinks_at c.args.xs.now c.args.ys.now c.args.delays.now in
+    (built_grown s (joins_found s (step_count (length c.args.xs.now))) (searched_built c.args.xs.now c.args.ys.now c.args.delays.now c.requires.0 c.requires.1 m), c.requires.2)
 
 pub returns : goal.returns
 returns c =
-    let z = c in
     let m = rw c.all_steps.ensures at c.search_sound-found.ensures in
-    let s = sinks_at z.args.xs.now z.args.ys.now z.args.delays.now in
-    rw (built_text s (joins_found s (step_count (length z.args.xs.now))) (searched_built z.args.xs.now z.args.ys.now z.args.delays.now z.requires.0 z.requires.1 m) true) at c.tree_text.ensures
+    let s = sinks_at c.args.xs.now c.args.ys.now c.args.delays.now in
+    rw (built_text s (joins_found s (step_count (length c.args.xs.now))) (searched_built c.args.xs.now c.args.ys.now c.args.delays.now c.requires.0 c.requires.1 m) true) at c.tree_text.ensures

@@ -3,7 +3,7 @@ use Rattle.printing.proofs.Searched.{lines_small, lines_large}
 use Rattle.printing.proofs.program.sinks_lines.Goals as goal
 
 pub returns-then-xs-le12 : goal.returns-then-xs-le12
-returns-then-xs-le12 c = let z = c in rw (lines_small (sinks_at z.args.xs.now z.args.ys.now z.args.delays.now) c.if-xs-le12.true) c.proven_lines.ensures
+returns-then-xs-le12 c = rw (lines_small (sinks_at c.args.xs.now c.args.ys.now c.args.delays.now) c.if-xs-le12.true) c.proven_lines.ensures
 
 pub returns : goal.returns
-returns c = let z = c in rw (lines_large (sinks_at z.args.xs.now z.args.ys.now z.args.delays.now) c.if-xs-le12.false) c.greedy_lines.ensures
+returns c = rw (lines_large (sinks_at c.args.xs.now c.args.ys.now c.args.delays.now) c.if-xs-le12.false) c.greedy_lines.ensures

@@ -28,9 +28,8 @@ too_long_line-requires c = record { fits = omega (arith) }
 pub returns-then-input-gt32768 : goal.returns-then-input-gt32768
 unfolding too_long
 returns-then-input-gt32768 c =
-    let z = c in
     let w = c.too_long_line.ensures in
-    rw (text_long z.args.input.now c.if-input-gt32768.true) (printed w (omega (arith, w.ends)))
+    rw (text_long c.args.input.now c.if-input-gt32768.true) (printed w (omega (arith, w.ends)))
 
 pub sinks_lines-requires : goal.sinks_lines-requires
 sinks_lines-requires c =

@@ -1,5 +1,5 @@
 use mathlib.Core.Path.{◌≡◌, refl, sym, ap, subst, ◌∙◌}
-use Prim.Native.Nat.{ℕ, ◌<◌, ◌-◌, ◌^◌}
+use Prim.Native.Nat.{ℕ, ◌-◌, ◌^◌}
 use native.Mathlib.Omega.{arith}
 use lib.ListN.{get_or}
 use lib.Bits.{bit_and, and_le_l, and_self}
@@ -22,33 +22,31 @@ loop-other-init c =
     (subst (λ (x : ℕ). Sub x (s - 2 ^ lowest s)) (sym c.beyond-rest.ensures) (and_self (s - 2 ^ lowest s)), refl)
 
 pub cost-requires : goal.cost-requires
-cost-requires c =
-    let z = c in (
-      omega arith,
-      omega (
-        arith,
-        (let below : c.loop-other.other < c.args.s = let z = c in
-            omega (arith, sub_le c.loop-other.other (z.args.s - 2 ^ lowest z.args.s) c.loop-other.invariant.0, beyond_lt z.args.s z.requires.0) in below),
-      ),
-      z.requires.2,
-    )
+cost-requires c = (
+  omega arith,
+  omega (
+    arith,
+    sub_le c.loop-other.other (c.args.s - 2 ^ lowest c.args.s) c.loop-other.invariant.0,
+    beyond_lt c.args.s c.requires.0,
+  ),
+  c.requires.2,
+)
 
 pub overflow_sub-result : goal.overflow_sub-result
 overflow_sub-result c = omega (
   arith,
-  (let below : c.loop-other.other < c.args.s = let z = c in
-      omega (arith, sub_le c.loop-other.other (z.args.s - 2 ^ lowest z.args.s) c.loop-other.invariant.0, beyond_lt z.args.s z.requires.0) in below),
+  sub_le c.loop-other.other (c.args.s - 2 ^ lowest c.args.s) c.loop-other.invariant.0,
+  beyond_lt c.args.s c.requires.0,
 )
 
 pub returns-then-cost-goal : goal.returns-then-cost-goal
 returns-then-cost-goal c =
     let l = c.loop-other in
-    let z = c in
     sym
-    (kept_hit c.diameter-d.result z.args.table.now z.args.s c.wide-goal.result z.requires.0
+    (kept_hit c.diameter-d.result c.args.table.now c.args.s c.wide-goal.result c.requires.0
     l.other (omega arith) l.invariant.0 (sym c.cost.ensures ∙ c.if-cost-goal.true))
     ∙ l.invariant.1
-    ∙ (kept_start c.diameter-d.result z.args.table.now z.args.s c.wide-goal.result z.requires.0 (held z.args.ds.now) c.beyond-rest.result c.diameter-d.ensures (c.wide-goal.ensures.0 ∙ ap (λ (x : ℕ). get_or z.args.table.now x 0) c.place.ensures) c.beyond-rest.ensures)
+    ∙ (kept_start c.diameter-d.result c.args.table.now c.args.s c.wide-goal.result c.requires.0 (held c.args.ds.now) c.beyond-rest.result c.diameter-d.ensures (c.wide-goal.ensures.0 ∙ ap (λ (x : ℕ). get_or c.args.table.now x 0) c.place.ensures) c.beyond-rest.ensures)
 
 pub loop-other-smaller : goal.loop-other-smaller
 loop-other-smaller c = omega (arith, and_le_l (c.loop-other.other - 1) c.beyond-rest.result)
@@ -57,12 +55,11 @@ pub loop-other-preserved : goal.loop-other-preserved
 loop-other-preserved c =
     let l = c.loop-other in
     let b = c.beyond-rest in
-    let z = c in
     let d = c.diameter-d.result in
     let g = c.wide-goal.result in (
-      subst (λ (r : ℕ). Sub (bit_and (l.other - 1) r) (z.args.s - 2 ^ lowest z.args.s)) (sym b.ensures) (sub_and (z.args.s - 2 ^ lowest z.args.s) (l.other - 1)),
-      ap (λ (r : ℕ). found d z.args.table.now z.args.s g (bit_and (l.other - 1) r)) b.ensures
-          ∙ sym (kept_miss d z.args.table.now z.args.s g z.requires.0 l.other (omega arith) l.invariant.0 (λ e. c.if-cost-goal.false (c.cost.ensures ∙ e)))
+      subst (λ (r : ℕ). Sub (bit_and (l.other - 1) r) (c.args.s - 2 ^ lowest c.args.s)) (sym b.ensures) (sub_and (c.args.s - 2 ^ lowest c.args.s) (l.other - 1)),
+      ap (λ (r : ℕ). found d c.args.table.now c.args.s g (bit_and (l.other - 1) r)) b.ensures
+          ∙ sym (kept_miss d c.args.table.now c.args.s g c.requires.0 l.other (omega arith) l.invariant.0 (λ e. c.if-cost-goal.false (c.cost.ensures ∙ e)))
           ∙ l.invariant.1,
     )
 
@@ -72,12 +69,11 @@ overflow_sub-result-2 c = omega (arith, c.beyond-rest.ensures)
 pub returns : goal.returns
 returns c =
     let l = c.loop-other in
-    let z = c in
     let d = c.diameter-d.result in
     let g = c.wide-goal.result in
     let e : l.other ≡ 0 = omega arith in
-    omega (arith, c.beyond-rest.ensures, low_le z.args.s z.args.s z.requires.0 (self_lt z.args.s))
-    ∙ sym (kept_none d z.args.table.now z.args.s g z.requires.0)
-    ∙ ap (found d z.args.table.now z.args.s g) (sym e)
+    omega (arith, c.beyond-rest.ensures, low_le c.args.s c.args.s c.requires.0 (self_lt c.args.s))
+    ∙ sym (kept_none d c.args.table.now c.args.s g c.requires.0)
+    ∙ ap (found d c.args.table.now c.args.s g) (sym e)
     ∙ l.invariant.1
-    ∙ (kept_start c.diameter-d.result z.args.table.now z.args.s c.wide-goal.result z.requires.0 (held z.args.ds.now) c.beyond-rest.result c.diameter-d.ensures (c.wide-goal.ensures.0 ∙ ap (λ (x : ℕ). get_or z.args.table.now x 0) c.place.ensures) c.beyond-rest.ensures)
+    ∙ (kept_start c.diameter-d.result c.args.table.now c.args.s c.wide-goal.result c.requires.0 (held c.args.ds.now) c.beyond-rest.result c.diameter-d.ensures (c.wide-goal.ensures.0 ∙ ap (λ (x : ℕ). get_or c.args.table.now x 0) c.place.ensures) c.beyond-rest.ensures)

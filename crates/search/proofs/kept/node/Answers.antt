@@ -11,8 +11,7 @@ use Rattle.search.proofs.kept.node.Goals as goal
 
 pub overflow_cast-result : goal.overflow_cast-result
 overflow_cast-result c =
-    let z = c in
-    omega (arith, c.first.ensures, lowest_lt 32 z.args.s z.requires.0 z.ranges.s.fits)
+    omega (arith, c.first.ensures, lowest_lt 32 c.args.s c.requires.0 c.ranges.s.fits)
 
 pub returns-then-s-lt2 : goal.returns-then-s-lt2
 unfolding node_of

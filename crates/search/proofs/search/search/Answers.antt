@@ -1,7 +1,4 @@
-use mathlib.Core.Path.{◌≡◌, refl, sym, ◌∙◌}
-use lib.ListN.{length}
-use Rattle.plane.specs.declared.refusal.Checked.TheVariants.{Fine}
-use Rattle.search.specs.Rooms.{check_search}
+use mathlib.Core.Path.{refl, sym, ◌∙◌}
 use Rattle.search.proofs.Finding.{provided}
 use Rattle.search.proofs.search.search.Goals as goal
 
@@ -13,13 +10,13 @@ returns-in-Refused c =
 pub search_sound-requires : goal.search_sound-requires
 search_sound-requires c =
     let a = c.args in
-    provided a.xs.now a.ys.now a.delays.now a.table.now a.js.now a.us.now a.vs.now a.ws.now ((let passed-all : check_search c.args.xs.now c.args.ys.now c.args.delays.now (length c.args.table.now) (length c.args.js.now) (length c.args.us.now) (length c.args.vs.now) (length c.args.ws.now) ≡ Fine = sym c.check_search-said.ensures ∙ c.in_default.is in passed-all))
+    provided a.xs.now a.ys.now a.delays.now a.table.now a.js.now a.us.now a.vs.now a.ws.now (sym c.check_search-said.ensures ∙ c.in_default.is)
 
 pub returns : goal.returns
 returns c =
     let e = c.search_sound.ensures in
     record {
-      answers = rw ((let passed-all : check_search c.args.xs.now c.args.ys.now c.args.delays.now (length c.args.table.now) (length c.args.js.now) (length c.args.us.now) (length c.args.vs.now) (length c.args.ws.now) ≡ Fine = sym c.check_search-said.ensures ∙ c.in_default.is in passed-all), e.finds);
+      answers = rw ((sym c.check_search-said.ensures ∙ c.in_default.is), e.finds);
       writes_table = e.writes_table;
       writes_js = e.writes_js;
       writes_u = e.writes_u;

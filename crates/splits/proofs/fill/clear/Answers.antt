@@ -16,9 +16,9 @@ loop-s-init c = (omega arith, blanked_zero c.args.table.now)
 pub bounds-table-place : goal.bounds-table-place
 bounds-table-place c = omega (
   arith,
-  (let lengths : length c.loop-s.table ≡ length c.args.table.now = let t = c.args.table.now in
+  (let t = c.args.table.now in
       let h : c.loop-s.s ≤ length t = omega (arith, c.loop-s.invariant.0, c.requires.1, c.subsets-size.ensures.0) in
-      ap length c.loop-s.invariant.1 ∙ blanked_length c.loop-s.s t h in lengths),
+      ap length c.loop-s.invariant.1 ∙ blanked_length c.loop-s.s t h),
 )
 
 pub loop-s-preserved : goal.loop-s-preserved
@@ -33,12 +33,11 @@ loop-s-preserved c =
     )
 
 pub shape_of-table : goal.shape_of-table
-shape_of-table c = (let lengths : length c.loop-s.table ≡ length c.args.table.now = let t = c.args.table.now in
+shape_of-table c = (let t = c.args.table.now in
     let h : c.loop-s.s ≤ length t = omega (arith, c.loop-s.invariant.0, c.requires.1, c.subsets-size.ensures.0) in
-    ap length c.loop-s.invariant.1 ∙ blanked_length c.loop-s.s t h in lengths)
+    ap length c.loop-s.invariant.1 ∙ blanked_length c.loop-s.s t h)
 
 pub returns : goal.returns
 returns c =
-    let z = c in
-    let e : c.loop-s.s ≡ 2 ^ z.args.n = omega arith in
-    c.loop-s.invariant.1 ∙ ap (λ (k : ℕ). blanked k z.args.table.now) e ∙ blanked_all z.args.n z.args.table.now
+    let e : c.loop-s.s ≡ 2 ^ c.args.n = omega arith in
+    c.loop-s.invariant.1 ∙ ap (λ (k : ℕ). blanked k c.args.table.now) e ∙ blanked_all c.args.n c.args.table.now

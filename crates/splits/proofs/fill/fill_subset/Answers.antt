@@ -6,10 +6,9 @@ use Rattle.splits.proofs.fill.fill_subset.Goals as goal
 
 pub returns : goal.returns
 returns c =
-    let z = c in
     let f = c.examine-found in
     record {
       value = f.ensures.0;
-      table_after = subset_is (held z.args.ds.now) z.args.table.now z.args.s c.diameter.result c.place.result f.result.least (take z.args.budget (splits z.args.s))
-          (parts_take z.args.s z.args.budget (splits z.args.s) (parts_splits z.args.s z.requires.0)) z.requires.2 c.diameter.ensures c.place.ensures f.ensures.1;
+      table_after = subset_is (held c.args.ds.now) c.args.table.now c.args.s c.diameter.result c.place.result f.result.least (take c.args.budget (splits c.args.s))
+          (parts_take c.args.s c.args.budget (splits c.args.s) (parts_splits c.args.s c.requires.0)) c.requires.2 c.diameter.ensures c.place.ensures f.ensures.1;
     }

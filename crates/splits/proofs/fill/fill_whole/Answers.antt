@@ -5,6 +5,5 @@ use Rattle.splits.proofs.fill.fill_whole.Goals as goal
 
 pub returns : goal.returns
 returns c =
-    let z = c in
-    subset_is (held z.args.ds.now) z.args.table.now z.args.s c.diameter.result c.place.result c.examine_all-least.result (splits z.args.s)
-    (parts_splits z.args.s z.requires.0) z.requires.1 c.diameter.ensures c.place.ensures c.examine_all-least.ensures
+    subset_is (held c.args.ds.now) c.args.table.now c.args.s c.diameter.result c.place.result c.examine_all-least.result (splits c.args.s)
+    (parts_splits c.args.s c.requires.0) c.requires.1 c.diameter.ensures c.place.ensures c.examine_all-least.ensures

@@ -1,4 +1,4 @@
-use mathlib.Core.Path.{◌≡◌, refl}
+use mathlib.Core.Path.{refl}
 use native.Mathlib.Omega.{arith}
 use Rattle.subsets.proofs.Widths.{changed_all, changed_none}
 use Rattle.subsets.proofs.square.widen.Goals as goal
@@ -10,4 +10,4 @@ pub shape_of-ds : goal.shape_of-ds
 shape_of-ds c = c.loop-r.invariant.1
 
 pub returns : goal.returns
-returns c = changed_all (let e : c.loop-r.r ≡ c.args.half = omega arith in e) c.loop-r.invariant.2
+returns c = changed_all (omega arith) c.loop-r.invariant.2

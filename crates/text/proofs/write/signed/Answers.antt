@@ -6,36 +6,31 @@ use Rattle.text.proofs.write.signed.Goals as goal
 
 pub byte-end-requires : goal.byte-end-requires
 byte-end-requires c =
-    let z = c in
-    let h = simp (to_z-of_z z.ranges.x) at c.if-x-lt0.true in
-    record { fits = omega (arith, rw (signed_low z.args.x h) at z.requires.fits) }
+    let h = simp (to_z-of_z c.ranges.x) at c.if-x-lt0.true in
+    record { fits = omega (arith, rw (signed_low c.args.x h) at c.requires.fits) }
 
 pub number-requires : goal.number-requires
 number-requires c =
-    let z = c in
-    let h = simp (to_z-of_z z.ranges.x) at c.if-x-lt0.true in
-    let m = simp (to_z-of_z z.ranges.x) at c.magnitude.ensures in
+    let h = simp (to_z-of_z c.ranges.x) at c.if-x-lt0.true in
+    let m = simp (to_z-of_z c.ranges.x) at c.magnitude.ensures in
     let b = c.byte-end in
-    record { fits = rw m (omega (arith, b.ensures.ends, b.auto.out, rw (signed_low z.args.x h) at z.requires.fits)) }
+    record { fits = rw m (omega (arith, b.ensures.ends, b.auto.out, rw (signed_low c.args.x h) at c.requires.fits)) }
 
 pub returns-then-x-lt0 : goal.returns-then-x-lt0
 returns-then-x-lt0 c =
-    let z = c in
-    let h = simp (to_z-of_z z.ranges.x) at c.if-x-lt0.true in
-    let m = simp (to_z-of_z z.ranges.x) at c.magnitude.ensures in
-    rw (signed_low z.args.x h)
+    let h = simp (to_z-of_z c.ranges.x) at c.if-x-lt0.true in
+    let m = simp (to_z-of_z c.ranges.x) at c.magnitude.ensures in
+    rw (signed_low c.args.x h)
     (then c.byte-end.ensures (rw m at c.number.ensures))
 
 pub number-requires-2 : goal.number-requires-2
 number-requires-2 c =
-    let z = c in
-    let h = simp (to_z-of_z z.ranges.x) at c.if-x-lt0.false in
-    let m = simp (to_z-of_z z.ranges.x) at c.magnitude-2.ensures in
-    record { fits = rw m (rw (signed_high z.args.x h) at z.requires.fits) }
+    let h = simp (to_z-of_z c.ranges.x) at c.if-x-lt0.false in
+    let m = simp (to_z-of_z c.ranges.x) at c.magnitude-2.ensures in
+    record { fits = rw m (rw (signed_high c.args.x h) at c.requires.fits) }
 
 pub returns : goal.returns
 returns c =
-    let z = c in
-    let h = simp (to_z-of_z z.ranges.x) at c.if-x-lt0.false in
-    let m = simp (to_z-of_z z.ranges.x) at c.magnitude-2.ensures in
-    rw (signed_high z.args.x h) (rw m at c.number-2.ensures)
+    let h = simp (to_z-of_z c.ranges.x) at c.if-x-lt0.false in
+    let m = simp (to_z-of_z c.ranges.x) at c.magnitude-2.ensures in
+    rw (signed_high c.args.x h) (rw m at c.number-2.ensures)

@@ -12,9 +12,8 @@ loop-i-init c = (omega arith, nothing)
 pub byte-end-requires : goal.byte-end-requires
 byte-end-requires c =
     let l = c.loop-i in
-    let a = c in
-    let e = length-take-le l.i a.args.w.now l.invariant.0 in
-    record { fits = omega (arith, a.requires.fits, l.invariant.1.ends, written_size l.invariant.1, e) }
+    let e = length-take-le l.i c.args.w.now l.invariant.0 in
+    record { fits = omega (arith, c.requires.fits, l.invariant.1.ends, written_size l.invariant.1, e) }
 
 pub loop-i-preserved : goal.loop-i-preserved
 loop-i-preserved c =

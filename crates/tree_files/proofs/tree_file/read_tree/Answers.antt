@@ -15,11 +15,9 @@ returns-in-Refused c =
 pub take_joins-requires : goal.take_joins-requires
 unfolding check_tree_file
 take_joins-requires c =
-    let t = c in
     let f = c.args.file.now in
-    formed_less 3 (omega arith) (formed 5 f (both_pass (form 5 f) _ (sym t.check_tree_file-said.ensures ∙ t.in_default.is)).0)
+    formed_less 3 (omega arith) (formed 5 f (both_pass (form 5 f) _ (sym c.check_tree_file-said.ensures ∙ c.in_default.is)).0)
 
 pub returns : goal.returns
 returns c =
-    let t = c in
-    joins_passed (sym t.check_tree_file-said.ensures ∙ t.in_default.is) c.take_joins.ensures
+    joins_passed (sym c.check_tree_file-said.ensures ∙ c.in_default.is) c.take_joins.ensures
