@@ -63,13 +63,6 @@ low_of hi d = record { 0 = 2 * hi.0 - d }
 abbrev pub high_of : Tilted → ℕ → Doubled
 high_of lo d = record { 0 = 2 * lo.0 + d }
 
--- the lower of two, and the higher
-abbrev pub lower_of : Doubled → Doubled → Doubled
-lower_of a b = record { 0 = min a.0 b.0 }
-
-abbrev pub higher_of : Doubled → Doubled → Doubled
-higher_of a b = record { 0 = max a.0 b.0 }
-
 -- the value from lo to hi that is nearest to p
 abbrev pub near_of : Doubled → Doubled → Doubled → Doubled
 near_of lo hi p = record { 0 = max lo.0 (min hi.0 p.0) }

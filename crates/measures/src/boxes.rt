@@ -43,10 +43,10 @@ pub fn hull(a: Box, b: Box) -> Box
     ensures { result ≡ hull_of a b }
 {
     Box {
-        lu: measure::least(a.lu, b.lu),
-        hu: measure::greatest(a.hu, b.hu),
-        lv: measure::least(a.lv, b.lv),
-        hv: measure::greatest(a.hv, b.hv),
+        lu: a.lu.min(b.lu),
+        hu: a.hu.max(b.hu),
+        lv: a.lv.min(b.lv),
+        hv: a.hv.max(b.hv),
     }
 }
 
@@ -57,7 +57,7 @@ pub fn diameter(b: Box) -> u32
 {
     let wu = measure::width(b.lu, b.hu);
     let wv = measure::width(b.lv, b.hv);
-    if wu <= wv { wv } else { wu }
+    wu.max(wv)
 }
 
 // The same, where the ends of both axes stand in order: a plain difference each.
@@ -68,28 +68,27 @@ pub fn breadth(b: Box) -> u32
 {
     let ru = measure::rise(b.lu, b.hu);
     let rv = measure::rise(b.lv, b.hv);
-    if ru <= rv { rv } else { ru }
+    ru.max(rv)
 }
 
 // A box as four numbers in memory that a caller keeps, and the box that four numbers stand for: any four do.
-pub fn numbers(b: Box) -> [u32; 4]
-    ensures { result ≡ numbers_of b }
-{
-    [
-        measure::kept(b.lu),
-        measure::kept(b.hu),
-        measure::kept(b.lv),
-        measure::kept(b.hv),
-    ]
+impl From<Box> for [u32; 4] {
+    ghost from_gives = { λ b n. n ≡ numbers_of b };
+
+    fn from(b: Box) -> [u32; 4] {
+        [b.lu.into(), b.hu.into(), b.lv.into(), b.hv.into()]
+    }
 }
 
-pub fn of_numbers(n: [u32; 4]) -> Box
-    ensures { result ≡ box_in n }
-{
-    Box {
-        lu: measure::standing_for(n[0]),
-        hu: measure::standing_for(n[1]),
-        lv: measure::standing_for(n[2]),
-        hv: measure::standing_for(n[3]),
+impl From<[u32; 4]> for Box {
+    ghost from_gives = { λ n b. b ≡ box_in n };
+
+    fn from([lu, hu, lv, hv]: [u32; 4]) -> Box {
+        Box {
+            lu: lu.into(),
+            hu: hu.into(),
+            lv: lv.into(),
+            hv: hv.into(),
+        }
     }
 }

@@ -1,33 +1,36 @@
 // The three measures. Each is held as an unsigned number, counted from a far corner of the plane (the prover's arithmetic reads naturals),
-// and the number is private to this module: a sum of two unlike ones does not compile. `kept` and `standing_for` lead out and back.
-ghost use Rattle.std.specs.Prelude.{◌≡◌, ◌*◌, ◌^◌, ◌≤◌, ◌<◌, max};
-ghost use Rattle.measures.specs.Range.{in_range, late, Central, Brief, equal};
-ghost use Rattle.measures.specs.Measures.{kept_as, grid_of, u_of, v_of, less_of, more_of, least_of, greatest_of, gap, low_of, high_of, lower_of, higher_of, near_of, lowered, raised, unlifted};
+// and the number is private to this module: a sum of two unlike ones does not compile. A tilted one converts to its number and back.
+ghost use Rattle.std.specs.Prelude.{◌≡◌, ◌*◌, ◌^◌, ◌≤◌, ◌<◌};
+ghost use Rattle.measures.specs.Range.{in_range, late, Central, Brief};
+ghost use Rattle.measures.specs.Measures.{kept_as, grid_of, u_of, v_of, less_of, more_of, gap, low_of, high_of, near_of, lowered, raised, unlifted};
 
 // A coordinate x or y, in grid units.
 #[derive(Clone, Copy)]
 pub struct Grid(u32);
 
 // A coordinate u or v, in grid units.
-#[derive(Clone, Copy)]
+#[derive(Clone, Copy, PartialEq, Eq, PartialOrd, Ord)]
 pub struct Tilted(u32);
 
 // A coordinate U or V, in half grid units.
-#[derive(Clone, Copy)]
+#[derive(Clone, Copy, PartialEq, Eq, PartialOrd, Ord)]
 pub struct Doubled(u32);
 
-// A length, wide enough to be added up.
-pub fn wide(x: u32) -> u64
-    ensures { (result ≡ x) × (result < 2 ^ 32) }
-{
-    x as u64
+// The number that stands for a tilted coordinate in memory that a caller keeps, and the coordinate that a number stands for: every number does.
+impl From<Tilted> for u32 {
+    ghost from_gives = { λ a n. n ≡ a.0 };
+
+    fn from(a: Tilted) -> u32 {
+        a.0
+    }
 }
 
-// The larger of two lengths.
-pub fn larger(x: u32, y: u32) -> u32
-    ensures { result ≡ max x y }
-{
-    if x < y { y } else { x }
+impl From<u32> for Tilted {
+    ghost from_gives = { λ n a. a ≡ kept_as n };
+
+    fn from(n: u32) -> Tilted {
+        Tilted(n)
+    }
 }
 
 // Whether x may be the coordinate of a sink.
@@ -42,13 +45,6 @@ pub fn is_late(w: u32) -> bool
     ensures { result ≡ late w }
 {
     1000000 < w
-}
-
-// Whether two numbers with sign are equal.
-pub fn same(a: i32, b: i32) -> bool
-    ensures { result ≡ equal a b }
-{
-    a == b
 }
 
 pub fn on_grid(x: i32) -> Grid
@@ -87,23 +83,11 @@ pub fn more(a: Tilted, w: u32) -> Tilted
     Tilted(a.0 + w)
 }
 
-pub fn least(a: Tilted, b: Tilted) -> Tilted
-    ensures { result ≡ least_of a b }
-{
-    if a.0 <= b.0 { a } else { b }
-}
-
-pub fn greatest(a: Tilted, b: Tilted) -> Tilted
-    ensures { result ≡ greatest_of a b }
-{
-    if a.0 <= b.0 { b } else { a }
-}
-
 // How far two values are apart.
 pub fn width(a: Tilted, b: Tilted) -> u32
     ensures { result ≡ gap b.0 a.0 }
 {
-    if a.0 <= b.0 { b.0 - a.0 } else { a.0 - b.0 }
+    a.0.abs_diff(b.0)
 }
 
 // The same, where b is not below a.
@@ -118,20 +102,7 @@ pub fn rise(a: Tilted, b: Tilted) -> u32
 pub fn signed(a: Tilted) -> i64
     ensures { (result ≡ unlifted a.0) × (a.0 < 2 ^ 32) }
 {
-    (a.0 as i64) - 64000000
-}
-
-// The number that stands for a tilted coordinate in memory that a caller keeps, and the coordinate that a number stands for: every number does.
-pub fn kept(a: Tilted) -> u32
-    ensures { result ≡ a.0 }
-{
-    a.0
-}
-
-pub fn standing_for(n: u32) -> Tilted
-    ensures { result ≡ kept_as n }
-{
-    Tilted(n)
+    i64::from(a.0) - 64000000
 }
 
 // The least and the greatest doubled coordinate of a segment.
@@ -149,24 +120,11 @@ pub fn high_end(lo: Tilted, d: u32) -> Doubled
     Doubled(2 * lo.0 + d)
 }
 
-// The lower of two, and the higher.
-fn lower(a: Doubled, b: Doubled) -> Doubled
-    ensures { result ≡ lower_of a b }
-{
-    if a.0 <= b.0 { a } else { b }
-}
-
-fn higher(a: Doubled, b: Doubled) -> Doubled
-    ensures { result ≡ higher_of a b }
-{
-    if a.0 <= b.0 { b } else { a }
-}
-
 // The value from lo to hi that is nearest to p. Two choices between two numbers each: no branch hangs on where p lies.
 pub fn nearest(lo: Doubled, hi: Doubled, p: Doubled) -> Doubled
     ensures { result ≡ near_of lo hi p }
 {
-    higher(lo, lower(hi, p))
+    lo.max(hi.min(p))
 }
 
 // A doubled coordinate, as a number with sign.
