@@ -6,7 +6,7 @@ use Rattle.measures.specs.Measures.{lowered, raised}
 use Rattle.measures.specs.Spots.{root_of, nearest_of}
 use Rattle.measures.specs.declared.segment.Spot.{Spot}
 use Rattle.measures.specs.declared.boxes.Box.{Box}
-use Rattle.orders.specs.Table.{box_at, Boxed}
+use Rattle.orders.specs.Table.{box_at}
 use Rattle.orders.specs.Arrays.{Fairs, Diameters, Rising, NodeRoom}
 
 -- what the places are found from, parents first
@@ -43,7 +43,7 @@ Has us vs k = (k < length us) × (k < length vs)
 
 -- node k's box and diameter can be read, and its place can be written
 pub record Placeable (k : ℕ) (bs : List Box) (ds : List ℕ) (us vs : List ℤ) : Type 0 where
-  pub boxed : Boxed bs k
+  pub boxed : k < length bs
   pub measured : k < length ds
   pub has : Has us vs k
   pub fair : Fair (box_at bs k)

@@ -22,7 +22,7 @@ use Rattle.partners.specs.declared.pair.Pair.{Pair}
 use Rattle.partners.specs.declared.best.Choice.{Choice}
 use Rattle.partners.specs.Closest.{pair, best, without, after}
 use Rattle.nearest.specs.Nearest.{below, union, chosen, joins, alone, order}
-use Rattle.orders.specs.Table.{box_at, Puts, Sinked}
+use Rattle.orders.specs.Table.{box_at, Sinked}
 use Rattle.partners.specs.Boxes.{reach}
 use Rattle.partners.specs.Live.{Packed}
 use Rattle.partners.specs.Rows.{row_at, Roomy, skip_both, Right, Caching, pair_at, Picks, Closed, Entered}
@@ -31,6 +31,7 @@ use Rattle.partners.proofs.Members.{all_without, in_all}
 use Rattle.partners.proofs.Pairs.{Within, best_same}
 use Rattle.partners.proofs.Boxing.{hull_in_order, covers_in_order}
 use Rattle.partners.proofs.Packed.{packed_begin, packed_within}
+use Rattle.orders.proofs.Boxing.{put_here, put_before}
 use Rattle.nearest.proofs.Running.{Running, more, running_begin, running_turn}
 use Rattle.partners.proofs.Entering.{right_same, right_enter}
 use Rattle.partners.proofs.Closing.{right_close, without_at, left_after}
@@ -60,12 +61,13 @@ more_each P sets l m e f p k h = go (ltb k m) refl
     go true q = let g = ltb-true k m q in rw (get_or-append sets (l ∷ []) [] k (omega (arith, e))) (f k g)
     go false q = let g : k ≡ m = omega (arith, ltb-false k m q) in rw (g, get_or_at sets l [] [] m e) p
 
-pub held_turn : {s : Sinks} {m : ℕ} {sets : List (List ℕ)} {bs bs' : List Box} (p : Pair) → Held s m sets bs → length sets ≡ m → p.low < m → p.high < m → Puts m (hull_of (box_at bs p.low) (box_at bs p.high)) bs bs' → Held s (m + 1) (more sets p) bs'
-held_turn {s} {m} {sets} {bs} {bs'} p v e h g w =
+pub held_turn : {s : Sinks} {m : ℕ} {sets : List (List ℕ)} {bs bs' : List Box} (p : Pair) → Held s m sets bs → length sets ≡ m → p.low < m → p.high < m → m < length bs → bs' ≡ set bs m (hull_of (box_at bs p.low) (box_at bs p.high)) → Held s (m + 1) (more sets p) bs'
+held_turn {s} {m} {sets} {bs} {bs'} p v e h g r w =
+    let b = hull_of (box_at bs p.low) (box_at bs p.high) in
     record {
       full = more_each (λ k l. 0 < length l) sets (below sets p) m e v.full (some (get_or sets p.low []) (get_or sets p.high []) (v.full p.low h));
       covers = λ k l.
-          more_each (λ i o. Covers s o (box_at bs' i)) sets (below sets p) m e (λ i b. rw (w.before i b) (v.covers i b)) (rw w.here (held_hull v p.low p.high h g)) k l;
+          more_each (λ i o. Covers s o (box_at bs' i)) sets (below sets p) m e (λ i q. rw (put_before bs m b w i q) (v.covers i q)) (rw (put_here bs m b w r) (held_hull v p.low p.high h g)) k l;
     }
 
 alone_at : (n k : ℕ) → k < n → get_or (alone n) k [] ≡ k ∷ []
@@ -121,8 +123,8 @@ pub open_low : {n i : ℕ} {bs : List Box} {live rows js : List ℕ} (p : Pair) 
 open_low {bs = bs} p o e = rw e (within_low o.packed (packed_within (reach bs) o.packed o.turn))
 
 -- and its hull has its ends in order
-pub open_upright : {n i : ℕ} {bs bs' : List Box} {live rows js : List ℕ} (p : Pair) (b : Box) → Open n i bs live rows js → p ≡ best (reach bs) live → Puts (n + i) (hull_of (box_at bs p.low) (box_at bs p.high)) bs bs' → b ≡ box_at bs' (n + i) → InOrder b
-open_upright {bs = bs} p b o e w is = subst InOrder (sym (is ∙ w.here)) (hull_in_order (box_at bs p.low) (box_at bs p.high) (o.upright p.high (open_low p o e).1))
+pub open_upright : {n i : ℕ} {bs bs' : List Box} {live rows js : List ℕ} (p : Pair) (b : Box) → Open n i bs live rows js → p ≡ best (reach bs) live → bs' ≡ set bs (n + i) (hull_of (box_at bs p.low) (box_at bs p.high)) → b ≡ box_at bs' (n + i) → InOrder b
+open_upright {n} {i} {bs} p b o e w is = subst InOrder (sym (is ∙ put_here bs (n + i) (hull_of (box_at bs p.low) (box_at bs p.high)) w o.box-room)) (hull_in_order (box_at bs p.low) (box_at bs p.high) (o.upright p.high (open_low p o e).1))
 
 -- ---- after a join: the two left, and the new node entered after the others
 module _ {n i : ℕ} {bs : List Box} {live rows rows1 js : List ℕ} (c : Choice) (o : Open n i bs live rows js) (k : Picks bs live rows c rows1) where
@@ -132,13 +134,13 @@ module _ {n i : ℕ} {bs : List Box} {live rows rows1 js : List ℕ} (c : Choice
 
   module _ {bs' : List Box} {live' rows2 : List ℕ} {b : Box} (is : b ≡ box_at bs' (n + i)) (d : Closed c b (n + i) live live' rows1 rows2) where
     -- what is kept is right again
-    right_round : Puts (n + i) (hull_of (box_at bs (pair_at live c).low) (box_at bs (pair_at live c).high)) bs bs' → Right bs' (after (pair_at live c) (n + i) live) (n + i + 1) (row_at rows2)
+    right_round : bs' ≡ set bs (n + i) (hull_of (box_at bs (pair_at live c).low) (box_at bs (pair_at live c).high)) → Right bs' (after (pair_at live c) (n + i) live) (n + i + 1) (row_at rows2)
     right_round u =
         let low = all_without (pair_at live c) o.packed.low in
         let v = right_close c.row c.with (k.right (n + i) o.packed.low o.right) stay.1 stay.0 in
-        right_enter b (length live - 2) is (omega (arith, stay.1)) (right_same v low u.before) low d.enters
+        right_enter b (length live - 2) is (omega (arith, stay.1)) (right_same v low (put_before bs (n + i) (hull_of (box_at bs (pair_at live c).low) (box_at bs (pair_at live c).high)) u)) low d.enters
 
-    pub round_of : (p : Pair) {js' : List ℕ} → pair_at live c ≡ best (reach bs) live → p ≡ pair_at live c → length live' ≡ length live → Puts (n + i) (hull_of (box_at bs p.low) (box_at bs p.high)) bs bs' → js' ≡ set (set js (2 * i) p.low) (2 * i + 1) p.high → Round n i bs bs' live live' rows2 js js'
+    pub round_of : (p : Pair) {js' : List ℕ} → pair_at live c ≡ best (reach bs) live → p ≡ pair_at live c → length live' ≡ length live → bs' ≡ set bs (n + i) (hull_of (box_at bs p.low) (box_at bs p.high)) → js' ≡ set (set js (2 * i) p.low) (2 * i + 1) p.high → Round n i bs bs' live live' rows2 js js'
     round_of p y e s u x =
         let a : Made (n + i) (pair_at live c) bs bs' live live' = record { puts = rw e at u; packs = left_after (pair_at live c) (n + i) live live' c.row c.with s stay.1 stay.0 d.nodes d.last } in
         record { made = rw y at a; right = rw y at (right_round (rw e at u)); writes = rw (e ∙ y) at x }
@@ -159,9 +161,9 @@ next_live : (k : ℕ) (new live rest : List ℕ) → take k live ≡ new → len
 next_live k new live rest e h = ap (λ (l : List ℕ). take k (l ++ rest)) (sym (take-append-drop k live)) ∙ rw (e, append_assoc) (take_at new (drop k live ++ rest) k h)
 
 module _ {s : Sinks} {n i : ℕ} {bs bs' : List Box} {live live' rows rows' js₀ js js' : List ℕ} where
-  pub going_turn : (rest : List ℕ) → Going s n i bs live rows js₀ js → i + 1 < n → 2 * i + 1 < length js → Round n i bs bs' live live' rows' js js' → Going s n (i + 1) bs' (take (n - (i + 1)) (live' ++ rest)) rows' js₀ js'
+  pub going_turn : (rest : List ℕ) → Going s n i bs live rows js₀ js → i + 1 < n → 2 * i + 1 < length js → n + i < length bs → Round n i bs bs' live live' rows' js js' → Going s n (i + 1) bs' (take (n - (i + 1)) (live' ++ rest)) rows' js₀ js'
   unfolding joins
-  going_turn rest v h b d =
+  going_turn rest v h b r d =
       let p = best (reach bs) live in
       let q = chosen s v.sets live in
       let w = packed_within (reach bs) v.running.packed h in
@@ -175,7 +177,7 @@ module _ {s : Sinks} {n i : ℕ} {bs bs' : List Box} {live live' rows rows' js�
       record {
         sets = more v.sets p;
         running = rw next run;
-        held = rw up (held_turn p v.held v.running.size low high d.made.puts);
+        held = rw up (held_turn p v.held v.running.size low high r d.made.puts);
         right = rw (next, up) d.right;
         is =
             rw (d.writes, two, two_more js (2 * i) p.low p.high b, append_assoc, next, pick_is v)
@@ -191,7 +193,7 @@ module _ {s : Sinks} {n i : ℕ} {bs bs' : List Box} {live live' rows rows' js�
         size = rw d.writes (simp length-set v.size);
       }
 
-pub going_open : {s : Sinks} {n i : ℕ} {bs : List Box} {live rows js₀ js : List ℕ} → Going s n i bs live rows js₀ js → i + 1 < n → n ≤ 512 → 4092 ≤ length bs → Roomy rows → 2 * (n - 1) ≤ length js₀ → Open n i bs live rows js
+pub going_open : {s : Sinks} {n i : ℕ} {bs : List Box} {live rows js₀ js : List ℕ} → Going s n i bs live rows js₀ js → i + 1 < n → n ≤ 512 → 1023 ≤ length bs → Roomy rows → 2 * (n - 1) ≤ length js₀ → Open n i bs live rows js
 going_open v h f b l r = record { packed = v.running.packed; right = v.right; upright = λ k l. covers_in_order (v.held.covers k l); turn = h; few = f; box-room = omega arith; roomy = l; room = omega (arith, v.size) }
 
 pub going_end : {s : Sinks} {n i : ℕ} {bs : List Box} {live rows js₀ js : List ℕ} → Going s n i bs live rows js₀ js → i ≡ n - 1 → 2 * (n - 1) ≤ length js₀ → js ≡ front (order s n) js₀

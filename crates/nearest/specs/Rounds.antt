@@ -4,7 +4,7 @@ use Rattle.measures.specs.Boxes.{hull_of}
 use Rattle.partners.specs.declared.pair.Pair.{Pair}
 use Rattle.partners.specs.Closest.{best, after}
 use Rattle.measures.specs.declared.boxes.Box.{Box}
-use Rattle.orders.specs.Table.{box_at, Boxed, Puts}
+use Rattle.orders.specs.Table.{box_at}
 use Rattle.partners.specs.Boxes.{Upright, reach}
 use Rattle.partners.specs.Live.{Packed}
 use Rattle.partners.specs.Rows.{row_at, Roomy, Right}
@@ -16,13 +16,13 @@ pub record Open (n i : ℕ) (bs : List Box) (live rows js : List ℕ) : Type 0 w
   pub upright : Upright (n + i) bs
   pub turn : i + 1 < n
   pub few : n ≤ 512
-  pub box-room : Boxed bs (n + i)
+  pub box-room : n + i < length bs
   pub roomy : Roomy rows
   pub room : 2 * i + 1 < length js
 
 -- the pair p is joined to node m: its hull is the next box, and the live nodes are those after the join
 pub record Made (m : ℕ) (p : Pair) (bs bs' : List Box) (live live' : List ℕ) : Type 0 where
-  pub puts : Puts m (hull_of (box_at bs p.low) (box_at bs p.high)) bs bs'
+  pub puts : bs' ≡ set bs m (hull_of (box_at bs p.low) (box_at bs p.high))
   pub packs : take (length live - 1) live' ≡ after p m live
 
 -- the best pair is joined and written, and what is kept beside the live nodes after the join is right

@@ -12,6 +12,7 @@ use Rattle.lists.proofs.Tests.{or_lt}
 use Rattle.partners.specs.declared.pair.Pair.{Pair}
 use Rattle.partners.specs.Closest.{is_of, without, after}
 use Rattle.partners.specs.Rule.{In}
+use Rattle.measures.specs.declared.boxes.Box.{Box}
 use Rattle.orders.specs.Table.{box_at}
 use Rattle.partners.specs.Live.{All, Rising}
 use Rattle.partners.specs.Live.All.{none, also}

@@ -11,6 +11,7 @@ use lib.ListN.{length, get_or}
 use Rattle.lists.proofs.First.{first_end, first_hit, first_none}
 use Rattle.lists.proofs.Tests.{or_lt}
 use Rattle.measures.specs.Boxes.{InOrder}
+use Rattle.measures.specs.declared.boxes.Box.{Box}
 use Rattle.partners.specs.declared.pair.Near.{Near}
 use Rattle.partners.specs.Closest.{pair, best}
 use Rattle.partners.specs.Rule.{In, Leads, Chosen}

@@ -1,6 +1,6 @@
 use mathlib.Core.Path.{refl}
 use native.Mathlib.Omega.{arith}
-use Rattle.orders.proofs.Upward.{new_order, puts_join}
+use Rattle.orders.proofs.Upward.{puts_join}
 use Rattle.orders.proofs.nodes.put_join.Goals as goal
 
 pub put_parent-requires : goal.put_parent-requires
