@@ -1,6 +1,5 @@
-use mathlib.Core.Path.{◌≡◌, refl, sym, subst, ◌∙◌}
+use mathlib.Core.Path.{◌≡◌, refl, ◌∙◌}
 use native.Mathlib.Omega.{arith}
-use Rattle.measures.specs.Boxes.{InOrder}
 use Rattle.partners.specs.Rows.{row_at}
 use Rattle.partners.proofs.Entering.{right_none}
 use Rattle.nearest.proofs.Going.{right_sink}
@@ -9,11 +8,8 @@ use Rattle.nearest.proofs.keep.begin.Goals as goal
 pub loop-i-init : goal.loop-i-init
 loop-i-init c = (omega arith, refl, right_none (row_at c.args.rows.now))
 
-pub box_at-requires : goal.box_at-requires
-box_at-requires c = omega (arith, c.loop-i-test.true, c.requires.2)
-
 pub enter-requires : goal.enter-requires
-enter-requires c = (omega (arith, c.loop-i.invariant.1, c.requires.0), omega (arith, c.loop-i-test.true, c.requires.1), omega (arith, c.loop-i-test.true, c.requires.1), subst InOrder (sym c.box_at.ensures) (c.requires.3 c.loop-i.i c.loop-i-test.true))
+enter-requires c = (omega (arith, c.loop-i.invariant.1, c.requires.0), omega (arith, c.loop-i-test.true, c.requires.1), omega (arith, c.loop-i-test.true, c.requires.1), c.requires.3 c.loop-i.i c.loop-i-test.true)
 
 pub overflow_add-i : goal.overflow_add-i
 overflow_add-i c = omega (arith, c.loop-i-test.true, c.requires.1)
@@ -24,7 +20,7 @@ loop-i-smaller c = omega (arith, c.loop-i-test.true)
 pub loop-i-preserved : goal.loop-i-preserved
 loop-i-preserved c =
     let l = c.loop-i in
-    (omega (arith, c.loop-i-test.true), c.enter.auto.rows ∙ l.invariant.1, right_sink l.i c.box_at.result l.rows c.enter.new.rows l.invariant.2 c.box_at.ensures c.enter.ensures)
+    (omega (arith, c.loop-i-test.true), c.enter.auto.rows ∙ l.invariant.1, right_sink l.i _ l.rows c.enter.new.rows l.invariant.2 refl c.enter.ensures)
 
 pub shape_of-rows : goal.shape_of-rows
 shape_of-rows c = c.loop-i.invariant.1

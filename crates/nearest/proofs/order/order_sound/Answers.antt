@@ -94,5 +94,5 @@ loop-i-preserved c =
       c.round.auto.bs ∙ l.invariant.1,
       length_front l.live r.new.live k c.round.auto.live ∙ l.invariant.2,
       c.round.auto.rows ∙ l.invariant.3,
-      going_turn _ l.invariant.4 h (omega (arith, l.invariant.4.size, o.room)) r.ensures,
+      going_turn _ l.invariant.4 h (omega (arith, l.invariant.4.size, o.room)) (omega (arith, l.invariant.1, o.few, h)) r.ensures,
     )
