@@ -4,10 +4,18 @@ use Rattle.lists.specs.First.{first}
 use Rattle.zero_skew.specs.Plane.{Sinks}
 use Rattle.measures.specs.Range.{in_range, late, Central, Brief}
 use Rattle.plane.specs.Refusals.{Checked, refusal, refuse_if, and_then}
+use Rattle.plane.specs.declared.sinks.Sinks as lent
 
 -- the sinks whose coordinates and delays three lists give
 abbrev pub sinks_at : List ℤ → List ℤ → List ℕ → Sinks
 sinks_at xs ys delays = record { n = length xs; at = λ i. record { x = get_or xs i (pos 0); y = get_or ys i (pos 0) }; wait = λ i. get_or delays i 0 }
+
+-- those of three lists that a caller lends, and how many they are
+abbrev pub sinks_in : lent.Sinks → Sinks
+sinks_in s = sinks_at s.xs.now s.ys.now s.delays.now
+
+abbrev pub count : lent.Sinks → ℕ
+count s = length s.xs.now
 
 -- "Files of version 1 mean w = 0": no sink has a delay
 abbrev pub prompt : List ℤ → List ℕ
@@ -63,6 +71,9 @@ pub record Fitting (xs ys : List ℤ) (delays : List ℕ) : Type 0 where
   pub near_x : (i : ℕ) → i < length xs → Central (get_or xs i (pos 0))
   pub near_y : (i : ℕ) → i < length xs → Central (get_or ys i (pos 0))
   pub brief : (i : ℕ) → Brief (get_or delays i 0)
+
+abbrev pub Fit : lent.Sinks → Type 0
+Fit s = Fitting s.xs.now s.ys.now s.delays.now
 
 -- for the code alone: sink i has a place that its numbers hold
 pub record Placed (xs ys : List ℤ) (i : ℕ) : Type 0 where

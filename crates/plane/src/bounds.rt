@@ -1,15 +1,15 @@
 // Boxes for callers: the box of all sinks, and a box with one more sink.
-ghost use Rattle.std.specs.Prelude.{◌≡◌, [], ◌∷◌, ◌+◌, ◌-◌, ◌<◌, pos, length, get_or};
+ghost use Rattle.std.specs.Prelude.{◌≡◌, ◌+◌, ◌-◌, ◌<◌};
 ghost use Rattle.lists.specs.Grow.{up_to};
 ghost use Rattle.zero_skew.specs.Box.{across};
-ghost use Rattle.plane.specs.Sinks.{sinks_at, Fitting, Placed};
-ghost use Rattle.measures.specs.Boxes.{sink_box};
+ghost use Rattle.plane.specs.Sinks.{sinks_in, count, Fit};
 ghost use Rattle.measures.specs.Covers.{Covers};
 ghost use Rattle.plane.specs.Said.{told};
 ghost use Rattle.plane.specs.Bounds.{bounds, bounds_in, box_answer, seen, widened_by, verdict, Widens};
 
 use crate::refusal::Refusal;
 use crate::sinks;
+use crate::sinks::Sinks;
 use measures::boxes::Box;
 use measures::{boxes, measure};
 
@@ -47,41 +47,25 @@ pub fn diameter(b: Box) -> u32
     boxes::diameter(b)
 }
 
-// The box of sink i.
-pub fn sink_at(xs: &[i32], ys: &[i32], delays: &[u32], i: usize) -> Box
-    requires { Fitting xs.now ys.now delays.now × (i < length xs.now) }
-    ensures { Covers (sinks_at xs.now ys.now delays.now) (i ∷ []) result }
-{
-    boxes::sink_box(xs[i], ys[i], delays[i])
-}
-
-// The box of the place of sink i, without its delay.
-pub fn place_at(xs: &[i32], ys: &[i32], i: usize) -> Box
-    requires { Placed xs.now ys.now i }
-    ensures { result ≡ sink_box (get_or xs.now i (pos 0)) (get_or ys.now i (pos 0)) 0 }
-{
-    boxes::sink_box(xs[i], ys[i], 0)
-}
-
 // The box of all of them.
-fn box_sound(xs: &[i32], ys: &[i32], delays: &[u32]) -> Box
-    requires { Fitting xs.now ys.now delays.now × (0 < length xs.now) }
-    ensures { Covers (sinks_at xs.now ys.now delays.now) (up_to (length xs.now)) result }
+fn box_sound(sinks: &Sinks<'_>) -> Box
+    requires { Fit sinks.now × (0 < count sinks.now) }
+    ensures { Covers (sinks_in sinks.now) (up_to (count sinks.now)) result }
 {
-    let mut b = sink_at(xs, ys, delays, 0);
-    for i in 1..xs.len() {
-        b = boxes::hull(b, sink_at(xs, ys, delays, i));
+    let mut b = sinks.box_at(0);
+    for i in 1..sinks.len() {
+        b = boxes::hull(b, sinks.box_at(i));
     }
     b
 }
 
 // The box of all sinks, or refusal 1 to 4 or 15.
 #[tactic(auto, unfolding(crate::specs::Bounds::box_answer))]
-pub fn box_of(xs: &[i32], ys: &[i32], delays: &[u32]) -> Result<Box, Refusal>
-    ensures { seen result ≡ box_answer xs.now ys.now delays.now }
+pub fn box_of(sinks: &Sinks<'_>) -> Result<Box, Refusal>
+    ensures { seen result ≡ box_answer sinks.now.xs.now sinks.now.ys.now sinks.now.delays.now }
 {
-    sinks::check_sinks(xs, ys, delays, 512)?;
-    Ok(box_sound(xs, ys, delays))
+    sinks.check(512)?;
+    Ok(box_sound(sinks))
 }
 
 // What is said of one more sink: refusal 4, then 15, both at place 0.

@@ -1,12 +1,23 @@
 // The check of sinks: refusals 1 to 4 and 15.
-ghost use Rattle.std.specs.Prelude.{◌≡◌, ◌&&◌, length, position};
+ghost use Rattle.std.specs.Prelude.{◌≡◌, [], ◌∷◌, ◌&&◌, ◌<◌, pos, length, get_or, position};
 ghost use Rattle.std.specs.List.{zip};
 ghost use Rattle.lists.specs.First.{any};
 ghost use Rattle.measures.specs.Range.{in_range, late};
-ghost use Rattle.plane.specs.Sinks.{out_of_range, too_late, check_places, check_sinks};
+ghost use Rattle.measures.specs.Boxes.{sink_box};
+ghost use Rattle.measures.specs.Covers.{Covers};
+ghost use Rattle.plane.specs.Sinks.{out_of_range, too_late, check_places, check_sinks, sinks_in, count, Fit, Placed};
 
 use crate::refusal::Refusal;
-use measures::measure;
+use measures::boxes::Box;
+use measures::{boxes, measure};
+
+// The sinks of a call: sink i stands at xs[i] and ys[i], and has the delay delays[i]. They are three lists, as callers from C lend them, and what a call asks of them its check says.
+#[derive(Clone, Copy)]
+pub struct Sinks<'a> {
+    pub xs: &'a [i32],
+    pub ys: &'a [i32],
+    pub delays: &'a [u32],
+}
 
 // Whether a sink may stand at x and y.
 pub fn inside(x: i32, y: i32) -> bool
@@ -59,19 +70,44 @@ pub fn check_places(xs: &[i32], ys: &[i32], limit: usize) -> Result<(), Refusal>
     Ok(())
 }
 
-// Refusals 1 to 4 and 15 in order.
-#[tactic(auto, using(crate::proofs::Found::late_found), unfolding(crate::specs::Sinks::check_sinks))]
-pub fn check_sinks(xs: &[i32], ys: &[i32], delays: &[u32], limit: usize) -> Result<(), Refusal>
-    ensures { result ≡ check_sinks limit xs.now ys.now delays.now }
+// The box of the place of sink i, without its delay.
+pub fn place_at(xs: &[i32], ys: &[i32], i: usize) -> Box
+    requires { Placed xs.now ys.now i }
+    ensures { result ≡ sink_box (get_or xs.now i (pos 0)) (get_or ys.now i (pos 0)) 0 }
 {
-    if xs.len() != delays.len() {
-        return Err(Refusal::Lists);
+    boxes::sink_box(xs[i], ys[i], 0)
+}
+
+impl Sinks<'_> {
+    // How many there are.
+    pub fn len(&self) -> usize
+        ensures { result ≡ count self.now }
+    {
+        self.xs.len()
     }
-    check_places(xs, ys, limit)?;
-    if any_late(delays) {
-        if let Some(i) = first_late(delays) {
-            return Err(Refusal::Late(i));
+
+    // Refusals 1 to 4 and 15 in order, where at most `limit` sinks are taken.
+    #[tactic(auto, using(crate::proofs::Found::late_found), unfolding(crate::specs::Sinks::check_sinks))]
+    pub fn check(&self, limit: usize) -> Result<(), Refusal>
+        ensures { result ≡ check_sinks limit self.now.xs.now self.now.ys.now self.now.delays.now }
+    {
+        if self.xs.len() != self.delays.len() {
+            return Err(Refusal::Lists);
         }
+        check_places(self.xs, self.ys, limit)?;
+        if any_late(self.delays) {
+            if let Some(i) = first_late(self.delays) {
+                return Err(Refusal::Late(i));
+            }
+        }
+        Ok(())
     }
-    Ok(())
+
+    // The box of sink i.
+    pub fn box_at(&self, i: usize) -> Box
+        requires { Fit self.now × (i < count self.now) }
+        ensures { Covers (sinks_in self.now) (i ∷ []) result }
+    {
+        boxes::sink_box(self.xs[i], self.ys[i], self.delays[i])
+    }
 }
