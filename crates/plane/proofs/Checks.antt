@@ -27,7 +27,7 @@ pub passed : (t : Bool) (r : Refusal) (e : Checked) → refuse_if t r e ≡ Ok t
 passed true r e q = let z : ◌≡◌ {A = ℕ} 0 1 = cc in let b : ⊥ = omega arith in absurd b
 passed false r e q = (refl, q)
 
-not-false : (t : Bool) → not t ≡ false → t ≡ true
+pub not-false : (t : Bool) → not t ≡ false → t ≡ true
 not-false true e = refl
 not-false false e = let z : ◌≡◌ {A = ℕ} 0 1 = cc in let b : ⊥ = omega arith in absurd b
 

@@ -1,13 +1,21 @@
 -- A held box by its numbers with sign: widening it is document 01's, and no two boxes have the same.
 use mathlib.Core.Path.{◌≡◌, ap}
+use mathlib.Core.Bool.{not, ◌&&◌}
+use native.Mathlib.Omega.{arith}
+use borrow.Author.Tests.{ltb-false}
+use Rattle.std.specs.Prelude.{Ok}
+use Rattle.lists.proofs.Tests.{and_both}
 use Prim.Native.Nat.{ℕ, ◌+◌, ◌-◌, min, max}
 use lib.IntN.{ℤ, pos, sub_ℕ, ◌+ℤ◌, ◌-ℤ◌}
 use Rattle.zero_skew.specs.Box.{Bounds, larger, smaller, hull, across}
 use Rattle.measures.specs.declared.boxes.Box.{Box}
-use Rattle.measures.specs.Range.{Central, Brief}
+use Rattle.measures.specs.Range.{in_range, late, Central, Brief}
+use Rattle.measures.proofs.Numbers.{nearer}
 use Rattle.measures.specs.Measures.{Lifts, lift}
 use Rattle.measures.specs.Boxes.{sink_box, hull_of, diam_of}
-use Rattle.plane.specs.Bounds.{bounds, sink_bounds}
+use Rattle.plane.specs.Bounds.{bounds, sink_bounds, verdict, widened_by}
+use Rattle.plane.specs.declared.refusal.Refusal.TheVariants.{Outside, Late}
+use Rattle.plane.proofs.Checks.{passed, not-false}
 use Rattle.measures.proofs.Lifted.{lift_larger, lift_smaller, lift_apart, unlift, lifts_back, unlift_once}
 use Rattle.plane.proofs.Covering.{least_u_lifts, most_u_lifts, least_v_lifts, most_v_lifts}
 
@@ -26,6 +34,15 @@ hull-sink b x y w p q h = λ k. record {
   least_v = least_is 64000000 b.lv.0 ((64000000 + lift x) - lift y - w) ((x -ℤ y) -ℤ pos w) (least_v_lifts x y w p q h) k;
   greatest_v = most_is 64000000 b.hv.0 ((64000000 + lift x) - lift y + w) ((x -ℤ y) +ℤ pos w) (most_v_lifts x y w p q h) k;
 }
+
+-- and so where the sink is accepted
+pub hull_accepted : (b : Box) (x y : ℤ) (w : ℕ) → verdict x y w ≡ Ok tt → bounds (hull_of b (sink_box x y w)) ≡ widened_by (bounds b) x y w
+hull_accepted b x y w e =
+    let p = passed (not (in_range x && in_range y)) (Outside 0) _ e in
+    let q = passed (late w) (Late 0) _ p.1 in
+    let (s, t) = and_both (in_range x) (in_range y) (not-false _ p.0) in
+    let h = ltb-false 1000000 w q.0 in
+    rw e (hull-sink b x y w (nearer x s) (nearer y t) (omega arith))
 
 -- the diameter of any box
 pub diam_is : (b : Box) → diam_of b ≡ across (bounds b)

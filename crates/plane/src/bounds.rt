@@ -85,13 +85,10 @@ pub fn verdict_on(x: i32, y: i32, w: u32) -> Result<(), Refusal>
 pub fn enlarged(b: Box, x: i32, y: i32, w: u32) -> Box
     ensures { bounds result ≡ widened_by (bounds b) x y w }
 {
-    if !sinks::inside(x, y) {
-        return b;
+    match verdict_on(x, y, w) {
+        Ok(()) => boxes::hull(b, boxes::sink_box(x, y, w)),
+        Err(_) => b,
     }
-    if measure::is_late(w) {
-        return b;
-    }
-    boxes::hull(b, boxes::sink_box(x, y, w))
 }
 
 // A held box, widened by one more sink. Where the sink is refused, with 4 or 15, place 0, the box stays.

@@ -1,45 +1,11 @@
-use mathlib.Core.Path.{◌≡◌, sym, ap, ◌∙◌}
-use native.Mathlib.Omega.{arith}
-use borrow.Author.Tests.{ltb-false}
+use mathlib.Core.Path.{sym, ◌∙◌}
 use mir.Facts.{to_z-of_z}
-use Rattle.lists.proofs.Tests.{and_both}
-use Rattle.measures.specs.Range.{in_range}
-use Rattle.measures.specs.Boxes.{hull_of, sink_box}
-use Rattle.plane.specs.Bounds.{bounds}
-use Rattle.measures.proofs.Numbers.{nearer}
-use Rattle.plane.proofs.Unlifted.{hull-sink}
+use Rattle.plane.proofs.Unlifted.{hull_accepted}
 use Rattle.plane.proofs.bounds.enlarged.Goals as goal
 
-pub returns-then-not-inside : goal.returns-then-not-inside
-returns-then-not-inside c =
-    let f = c.ranges.x in
-    let g = c.ranges.y in
-    rw (sym (simp to_z-of_z at c.inside.ensures) ∙ c.if-not-inside.true)
-
-pub returns-then-is_late : goal.returns-then-is_late
-returns-then-is_late c =
-    let f = c.ranges.x in
-    let g = c.ranges.y in
-    rw (sym (simp to_z-of_z at c.inside.ensures) ∙ c.if-not-inside.false, sym c.is_late.ensures ∙ c.if-is_late.true)
-
-pub sink_box-requires : goal.sink_box-requires
-sink_box-requires c =
+pub returns-in-Ok : goal.returns-in-Ok
+returns-in-Ok c =
     let a = c.args in
     let f = c.ranges.x in
     let g = c.ranges.y in
-    let t = sym (simp to_z-of_z at c.inside.ensures) ∙ c.if-not-inside.false in
-    let (p, q) = and_both (in_range a.x) (in_range a.y) t in
-    let h = ltb-false 1000000 a.w (sym c.is_late.ensures ∙ c.if-is_late.false) in
-    simp to_z-of_z (nearer a.x p, nearer a.y q, omega arith)
-
-pub returns : goal.returns
-returns c =
-    let a = c.args in
-    let f = c.ranges.x in
-    let g = c.ranges.y in
-    let t = sym (simp to_z-of_z at c.inside.ensures) ∙ c.if-not-inside.false in
-    let l = sym c.is_late.ensures ∙ c.if-is_late.false in
-    let (p, q) = and_both (in_range a.x) (in_range a.y) t in
-    let e : c.hull.result ≡ hull_of a.b (sink_box a.x a.y a.w) = rw (c.hull.ensures, simp to_z-of_z at c.sink_box.ensures) in
-    let h = ltb-false 1000000 a.w l in
-    rw (t, l) (ap bounds e ∙ hull-sink a.b a.x a.y a.w (nearer a.x p) (nearer a.y q) (omega arith))
+    rw (c.hull.ensures, simp to_z-of_z at c.sink_box.ensures) (hull_accepted a.b a.x a.y a.w (sym (simp to_z-of_z at c.verdict_on.ensures) ∙ c.in-Ok.is))
