@@ -67,7 +67,7 @@ module _ {n : ℕ} {js : List ℕ} (o : Ordered n js) {i : ℕ} (h : i < n - 1) 
 
   module _ {bs' : List Box} (p : bs' ≡ set bs (n + i) new) where
     here : box_at bs' (n + i) ≡ new
-    here = put_here bs (n + i) new p (omega (arith, w.room.boxes))
+    here = put_here bs (n + i) new p (omega (arith, w.room.boxes, w.room.room))
 
     hulls_more : (j : ℕ) → j < i + 1 → box_at bs' (n + j) ≡ hull_of (box_at bs' (left js j)) (box_at bs' (right js j))
     hulls_more j l = go (eqb j i) refl
@@ -90,14 +90,14 @@ module _ {n : ℕ} {js : List ℕ} (o : Ordered n js) {i : ℕ} (h : i < n - 1) 
         let lo = o.valid.low_left i h in
         let hi = o.valid.low_right i h in
         record {
-          room = record { boxes = rw p (simp length-set r.boxes); diameters = simp length-set r.diameters; parents = rw t (simp length-set r.parents); fits = r.fits };
-          fair = λ k g. rw p (each_more (λ (m : ℕ) (b : Box). Fair b) bs (n + i) new blank (omega (arith, r.boxes)) new_fair w.fair k (omega arith));
-          sized = λ k g. each_more (λ (m : ℕ) (x : ℕ). x ≡ diam_of (box_at bs' m)) ns.diameters (n + i) d 0 (omega (arith, r.diameters)) (e ∙ ap diam_of (sym here)) (λ m u. w.sized m u ∙ ap diam_of (sym (put_before bs (n + i) new p m u))) k (omega arith);
+          room = record { boxes = rw p (simp length-set r.boxes); diameters = simp length-set r.diameters; parents = rw t (simp length-set r.parents); room = r.room; fits = r.fits };
+          fair = λ k g. rw p (each_more (λ (m : ℕ) (b : Box). Fair b) bs (n + i) new blank (omega (arith, r.boxes, r.room)) new_fair w.fair k (omega arith));
+          sized = λ k g. each_more (λ (m : ℕ) (x : ℕ). x ≡ diam_of (box_at bs' m)) ns.diameters (n + i) d 0 (omega (arith, r.diameters, r.room)) (e ∙ ap diam_of (sym here)) (λ m u. w.sized m u ∙ ap diam_of (sym (put_before bs (n + i) new p m u))) k (omega arith);
           hulls = hulls_more;
           named = λ j g.
               rw t
-              (parents_more n js o (set ns.parents (left js i) (n + i)) (2 * i + 1) (right js i) (n + i) (omega arith) refl (simp length-set (omega (arith, r.parents))) (omega arith)
-              (parents_more n js o ns.parents (2 * i) (left js i) (n + i) (omega arith) refl (omega (arith, r.parents)) (omega arith) w.named)
+              (parents_more n js o (set ns.parents (left js i) (n + i)) (2 * i + 1) (right js i) (n + i) (omega arith) refl (simp length-set (omega (arith, r.parents, r.room))) (omega arith)
+              (parents_more n js o ns.parents (2 * i) (left js i) (n + i) (omega arith) refl (omega (arith, r.parents, r.room)) (omega arith) w.named)
               j (omega arith));
         }
 
@@ -134,7 +134,7 @@ joins_more {n} {js} {i} {old} {sum} {N} {ns} {d} {ns'} h w p =
     }
   where
     here : get_or ns'.diameters (n + i) 0 ≡ d
-    here = rw p.adds (get_or-set_same ns.diameters (n + i) d 0 (omega (arith, w.up.room.diameters)))
+    here = rw p.adds (get_or-set_same ns.diameters (n + i) d 0 (omega (arith, w.up.room.diameters, w.up.room.room)))
 
     same : sum_to (λ j. get_or ns'.diameters (n + j) 0) i ≡ sum_to (λ j. get_or ns.diameters (n + j) 0) i
     same = sum_same (λ j. get_or ns'.diameters (n + j) 0) (λ j. get_or ns.diameters (n + j) 0) i (λ j l. rw p.adds (get_or-set_other ns.diameters (n + i) (n + j) d 0 (λ e. omega arith)))

@@ -29,11 +29,12 @@ Parents n js ps = (k : ℕ) → k < 2 * n - 2 → get_or ps k 0 ≡ parent n js 
 abbrev pub Rising : ℕ → List ℕ → Type 0
 Rising n ps = (k : ℕ) → k < 2 * n - 2 → (k < get_or ps k 0) × (get_or ps k 0 ≤ 2 * n - 2)
 
--- room for the nodes of n sinks, and no more than for those of 512
+-- N nodes in each array: room for those of n sinks, and no more than for those of 512
 pub record NodeRoom {N : ℕ} (n : ℕ) (ns : Nodes N) : Type 0 where
-  pub boxes : 2 * n - 1 ≤ length ns.hulls
-  pub diameters : 2 * n - 1 ≤ length ns.diameters
-  pub parents : 2 * n - 1 ≤ length ns.parents
+  pub boxes : length ns.hulls ≡ N
+  pub diameters : length ns.diameters ≡ N
+  pub parents : length ns.parents ≡ N
+  pub room : 2 * n - 1 ≤ N
   pub fits : N ≤ 1023
 
 -- delays that the code's numbers hold, and room for twice each
@@ -82,13 +83,12 @@ abbrev pub Longer : ℕ → List ℕ → List ℕ → Type 0
 Longer n ds ps = (k : ℕ) → k < 2 * n - 2 → get_or ds k 0 ≤ get_or ds (get_or ps k 0) 0
 
 -- what the wires are written from
-pub record Climbs (n : ℕ) (ds ps : List ℕ) : Type 0 where
+pub record Climbs {N : ℕ} (n : ℕ) (ns : Nodes N) : Type 0 where
   pub some : 0 < n
   pub few : n ≤ 512
-  pub diameters : 2 * n - 1 ≤ length ds
-  pub parents : 2 * n - 1 ≤ length ps
-  pub rising : Rising n ps
-  pub longer : Longer n ds ps
+  pub room : NodeRoom n ns
+  pub rising : Rising n ns.parents
+  pub longer : Longer n ns.diameters ns.parents
 
-abbrev pub wire_in : ℕ → List ℕ → List ℕ → ℕ → ℕ
-wire_in n ds ps k = cond (ltb k (2 * n - 2)) (get_or ds (get_or ps k 0) 0 - get_or ds k 0) 0
+abbrev pub wire_in : {N : ℕ} → ℕ → Nodes N → ℕ → ℕ
+wire_in n ns k = cond (ltb k (2 * n - 2)) (get_or ns.diameters (get_or ns.parents k 0) 0 - get_or ns.diameters k 0) 0

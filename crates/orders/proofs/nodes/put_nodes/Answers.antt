@@ -12,7 +12,7 @@ put_joins-sum-requires g c =
       (
         c.requires.0.joins,
         up_begin c.requires.0.sinks.delayed
-        (record { boxes = omega (arith, r.boxes); diameters = omega (arith, r.diameters); parents = r.parents; fits = r.fits })
+        (record { boxes = omega (arith, r.boxes); diameters = omega (arith, r.diameters); parents = r.parents; room = r.room; fits = r.fits })
         c.put_own-own.ensures c.put_sinks.ensures,
       ),
     )
