@@ -19,6 +19,7 @@ use Rattle.measures.proofs.Fairness.{fair-diam}
 use Rattle.plane.proofs.Covering.{covers_sink, own_box, own_diam, moved_by}
 use Rattle.measures.specs.declared.boxes.Box.{Box}
 use Rattle.measures.specs.declared.segment.Spot.{Spot}
+use Rattle.orders.specs.declared.nodes.Nodes.{Nodes}
 use Rattle.orders.specs.Table.{box_at}
 use Rattle.orders.specs.Arrays.{Rising}
 use Rattle.embedding.specs.Places.{Low, Sized, spot_at, SpotHeld, Has, Placeable, PutsSpot, Spots, PutsDown, PutsSinks}
@@ -76,16 +77,16 @@ module _ {k : ℕ} {p : Spot} {us vs us' vs' : List ℤ} (w : PutsSpot k p us vs
   other_v i r = rw w.writes_v (get_or-set_other vs k i (lowered p.v.0) (pos 0) r)
 
 -- ---- the joins
-module _ {n : ℕ} {bs : List Box} {ps : List ℕ} where
-  pub spots_held : {m : ℕ} {us vs : List ℤ} → Spots n bs ps m us vs → (k : ℕ) → m ≤ k → k < 2 * n - 1 → SpotHeld us vs k (spot_at us vs k)
+module _ {n N : ℕ} {ns : Nodes N} where
+  pub spots_held : {m : ℕ} {us vs : List ℤ} → Spots n ns m us vs → (k : ℕ) → m ≤ k → k < 2 * n - 1 → SpotHeld us vs k (spot_at us vs k)
   spots_held {m} {us} {vs} w k h g =
       ⊎_elim
       (λ l. held_own (w.next k h l))
       (λ l. let e : 2 * n - 2 ≡ k = omega arith in rw e at (held_own w.root))
       (or_lt k (2 * n - 2))
 
-  pub down_begin : {ds : List ℕ} {us vs us' vs' : List ℤ} → Sized n bs ds ps → 2 * n - 1 ≤ length us → 2 * n - 1 ≤ length vs → PutsSpot (2 * n - 2) (root_of (box_at bs (2 * n - 2))) us vs us' vs' → PutsDown n bs ps (2 * n - 2) us vs us' vs'
-  down_begin {ds} {us} {vs} {us'} {vs'} z h g w =
+  pub down_begin : {us vs us' vs' : List ℤ} → Sized n ns → 2 * n - 1 ≤ length us → 2 * n - 1 ≤ length vs → PutsSpot (2 * n - 2) (root_of (box_at ns.hulls (2 * n - 2))) us vs us' vs' → PutsDown n ns (2 * n - 2) us vs us' vs'
+  down_begin {us} {vs} {us'} {vs'} z h g w =
       let some = z.some in
       record {
         spots = record { root = put_here w (low_root (z.fair (2 * n - 2) (omega arith))) (omega arith, omega arith); next = λ k a b. absurd (omega arith) };
@@ -93,11 +94,11 @@ module _ {n : ℕ} {bs : List Box} {ps : List ℕ} where
         kept_v = λ k l. other_v w k (λ e. omega arith);
       }
 
-  pub down_again : {m : ℕ} {old-u old-v us vs : List ℤ} → PutsDown n bs ps m old-u old-v us vs → PutsDown n bs ps m us vs us vs
+  pub down_again : {m : ℕ} {old-u old-v us vs : List ℤ} → PutsDown n ns m old-u old-v us vs → PutsDown n ns m us vs us vs
   down_again w = record { spots = w.spots; kept_u = λ k h. refl; kept_v = λ k h. refl }
 
-  pub down_more : {k : ℕ} {old-u old-v us vs us' vs' : List ℤ} (p : ℕ) → p ≡ get_or ps (k - 1) 0 → 0 < k → k ≤ 2 * n - 2 → Rising n ps → Fair (box_at bs (k - 1)) → Has us vs (k - 1) → PutsDown n bs ps k old-u old-v us vs
-      → PutsSpot (k - 1) (nearest_of (box_at bs (k - 1)) (spot_at us vs p)) us vs us' vs' → PutsDown n bs ps (k - 1) old-u old-v us' vs'
+  pub down_more : {k : ℕ} {old-u old-v us vs us' vs' : List ℤ} (p : ℕ) → p ≡ get_or ns.parents (k - 1) 0 → 0 < k → k ≤ 2 * n - 2 → Rising n ns.parents → Fair (box_at ns.hulls (k - 1)) → Has us vs (k - 1) → PutsDown n ns k old-u old-v us vs
+      → PutsSpot (k - 1) (nearest_of (box_at ns.hulls (k - 1)) (spot_at us vs p)) us vs us' vs' → PutsDown n ns (k - 1) old-u old-v us' vs'
   down_more {k} {old-u} {old-v} {us} {vs} {us'} {vs'} p z h g rise f has made w =
       record {
         spots = record { root = kept (2 * n - 2) (omega arith) made.spots.root; next = λ i a b. go i a b };
@@ -108,23 +109,23 @@ module _ {n : ℕ} {bs : List Box} {ps : List ℕ} where
       kept : (i : ℕ) → k ≤ i → {q : Spot} → SpotHeld us vs i q → SpotHeld us' vs' i q
       kept i l {q} y = same_held us vs us' vs' i (other_u w i (λ e. omega arith)) (other_v w i (λ e. omega arith)) y
 
-      here : SpotHeld us' vs' (k - 1) (nearest_of (box_at bs (k - 1)) (spot_at us vs (get_or ps (k - 1) 0)))
-      here = subst (λ (j : ℕ). SpotHeld us' vs' (k - 1) (nearest_of (box_at bs (k - 1)) (spot_at us vs j))) z (put_here w (low_near (spot_at us vs p) f) has)
+      here : SpotHeld us' vs' (k - 1) (nearest_of (box_at ns.hulls (k - 1)) (spot_at us vs (get_or ns.parents (k - 1) 0)))
+      here = subst (λ (j : ℕ). SpotHeld us' vs' (k - 1) (nearest_of (box_at ns.hulls (k - 1)) (spot_at us vs j))) z (put_here w (low_near (spot_at us vs p) f) has)
 
       -- a parent's place stays
-      above : (i : ℕ) → k - 1 ≤ i → i < 2 * n - 2 → SpotHeld us' vs' i (nearest_of (box_at bs i) (spot_at us vs (get_or ps i 0))) → SpotHeld us' vs' i (nearest_of (box_at bs i) (spot_at us' vs' (get_or ps i 0)))
+      above : (i : ℕ) → k - 1 ≤ i → i < 2 * n - 2 → SpotHeld us' vs' i (nearest_of (box_at ns.hulls i) (spot_at us vs (get_or ns.parents i 0))) → SpotHeld us' vs' i (nearest_of (box_at ns.hulls i) (spot_at us' vs' (get_or ns.parents i 0)))
       above i a b y =
           let r = (rise i b).0 in
-          subst (λ (q : Spot). SpotHeld us' vs' i (nearest_of (box_at bs i) q)) (same_spot us vs us' vs' (get_or ps i 0) (other_u w (get_or ps i 0) (λ e. omega arith)) (other_v w (get_or ps i 0) (λ e. omega arith))) y
+          subst (λ (q : Spot). SpotHeld us' vs' i (nearest_of (box_at ns.hulls i) q)) (same_spot us vs us' vs' (get_or ns.parents i 0) (other_u w (get_or ns.parents i 0) (λ e. omega arith)) (other_v w (get_or ns.parents i 0) (λ e. omega arith))) y
 
-      go : (i : ℕ) → k - 1 ≤ i → i < 2 * n - 2 → SpotHeld us' vs' i (nearest_of (box_at bs i) (spot_at us' vs' (get_or ps i 0)))
+      go : (i : ℕ) → k - 1 ≤ i → i < 2 * n - 2 → SpotHeld us' vs' i (nearest_of (box_at ns.hulls i) (spot_at us' vs' (get_or ns.parents i 0)))
       go i a b =
           ⊎_elim
           (λ l. let e : k - 1 ≡ i = omega arith in above i a b (rw e at here))
           (λ l. above i a b (kept i l (made.spots.next i l b)))
           (or_lt i k)
 
-  pub down_done : {k m : ℕ} {old-u old-v mid-u mid-v us vs : List ℤ} → k ≤ n → PutsDown n bs ps m old-u old-v mid-u mid-v → PutsDown n bs ps k mid-u mid-v us vs → PutsDown n bs ps n old-u old-v us vs
+  pub down_done : {k m : ℕ} {old-u old-v mid-u mid-v us vs : List ℤ} → k ≤ n → PutsDown n ns m old-u old-v mid-u mid-v → PutsDown n ns k mid-u mid-v us vs → PutsDown n ns n old-u old-v us vs
   down_done {k} {m} h a b =
       record {
         spots = record { root = b.spots.root; next = λ i l. b.spots.next i (omega arith) };
@@ -133,11 +134,11 @@ module _ {n : ℕ} {bs : List Box} {ps : List ℕ} where
       }
 
 -- node k can be read and written
-pub open_at : {n : ℕ} {bs : List Box} {ds ps : List ℕ} {us vs : List ℤ} (k : ℕ) → Sized n bs ds ps → 2 * n - 1 ≤ length us → 2 * n - 1 ≤ length vs → k < 2 * n - 1 → Placeable k bs ds us vs
+pub open_at : {n : ℕ} {N : ℕ} {ns : Nodes N} {us vs : List ℤ} (k : ℕ) → Sized n ns → 2 * n - 1 ≤ length us → 2 * n - 1 ≤ length vs → k < 2 * n - 1 → Placeable k ns us vs
 open_at k w a b h =
     record {
-      boxed = omega (arith, w.room.boxes);
-      measured = omega (arith, w.room.diameters);
+      inside = omega (arith, w.room.room);
+      fits = w.room.fits;
       has = (omega arith, omega arith);
       fair = w.fair k h;
       size = w.sized k h;
@@ -148,7 +149,7 @@ pub still_room : {m a b l : ℕ} → m ≤ a → b ≡ a → l ≡ b → m ≤ l
 still_room h p q = omega arith
 
 -- the node before the one that the pass has come to, and its parent
-pub open_next : {n k p : ℕ} {bs : List Box} {ds ps : List ℕ} {us vs : List ℤ} → Sized n bs ds ps → 2 * n - 1 ≤ length us → 2 * n - 1 ≤ length vs → n < k → k ≤ 2 * n - 2 → p ≡ get_or ps (k - 1) 0 → Spots n bs ps k us vs → Placeable (k - 1) bs ds us vs × Has us vs p × SpotHeld us vs p (spot_at us vs p)
+pub open_next : {n k p : ℕ} {N : ℕ} {ns : Nodes N} {us vs : List ℤ} → Sized n ns → 2 * n - 1 ≤ length us → 2 * n - 1 ≤ length vs → n < k → k ≤ 2 * n - 2 → p ≡ get_or ns.parents (k - 1) 0 → Spots n ns k us vs → Placeable (k - 1) ns us vs × Has us vs p × SpotHeld us vs p (spot_at us vs p)
 open_next {n} {k} {p} w a b h g e z =
     let r = w.rising (k - 1) (omega arith) in
     let low : k ≤ p = omega (arith, r.0) in
@@ -208,25 +209,25 @@ module _ {xs ys : List ℤ} where
       here = subst (SpotHeld us' vs' k) (g ∙ ap root_of e) (put_here w (subst Low (sym g) (low_root f)) has)
 
   -- with the sinks, all nodes have their places
-  pub spots_all : {bs : List Box} {ps : List ℕ} {us vs us' vs' : List ℤ} → Rising (length xs) ps
-      → ((k : ℕ) → k < length xs → root_of (sink_box (get_or xs k (pos 0)) (get_or ys k (pos 0)) 0) ≡ root_of (box_at bs k)) → ((k : ℕ) → k < length xs → (p : Spot) → root_of (box_at bs k) ≡ nearest_of (box_at bs k) p)
-      → Spots (length xs) bs ps (length xs) us vs → PutsSinks xs ys (length xs) us vs us' vs' → Spots (length xs) bs ps 0 us' vs'
-  spots_all {bs} {ps} {us} {vs} {us'} {vs'} rise stands still made w =
+  pub spots_all : {N : ℕ} {ns : Nodes N} {us vs us' vs' : List ℤ} → Rising (length xs) ns.parents
+      → ((k : ℕ) → k < length xs → root_of (sink_box (get_or xs k (pos 0)) (get_or ys k (pos 0)) 0) ≡ root_of (box_at ns.hulls k)) → ((k : ℕ) → k < length xs → (p : Spot) → root_of (box_at ns.hulls k) ≡ nearest_of (box_at ns.hulls k) p)
+      → Spots (length xs) ns (length xs) us vs → PutsSinks xs ys (length xs) us vs us' vs' → Spots (length xs) ns 0 us' vs'
+  spots_all {N} {ns} {us} {vs} {us'} {vs'} rise stands still made w =
       record {
         root = ⊎_elim (λ g. own (2 * length xs - 2) g) (λ g. kept (2 * length xs - 2) g made.root) (or_lt (2 * length xs - 2) (length xs));
-        next = λ k h l. ⊎_elim (λ g. near k g (spot_at us' vs' (get_or ps k 0))) (λ g. above k g l (kept k g (made.next k g l))) (or_lt k (length xs));
+        next = λ k h l. ⊎_elim (λ g. near k g (spot_at us' vs' (get_or ns.parents k 0))) (λ g. above k g l (kept k g (made.next k g l))) (or_lt k (length xs));
       }
     where
-      own : (k : ℕ) → k < length xs → SpotHeld us' vs' k (root_of (box_at bs k))
+      own : (k : ℕ) → k < length xs → SpotHeld us' vs' k (root_of (box_at ns.hulls k))
       own k g = subst (SpotHeld us' vs' k) (stands k g) (w.own k g)
 
-      near : (k : ℕ) → k < length xs → (p : Spot) → SpotHeld us' vs' k (nearest_of (box_at bs k) p)
+      near : (k : ℕ) → k < length xs → (p : Spot) → SpotHeld us' vs' k (nearest_of (box_at ns.hulls k) p)
       near k g p = subst (SpotHeld us' vs' k) (still k g p) (own k g)
 
       kept : (k : ℕ) → length xs ≤ k → {p : Spot} → SpotHeld us vs k p → SpotHeld us' vs' k p
       kept k g {p} z = same_held us vs us' vs' k (w.kept_u k g) (w.kept_v k g) z
 
-      above : (k : ℕ) → length xs ≤ k → k < 2 * length xs - 2 → SpotHeld us' vs' k (nearest_of (box_at bs k) (spot_at us vs (get_or ps k 0))) → SpotHeld us' vs' k (nearest_of (box_at bs k) (spot_at us' vs' (get_or ps k 0)))
+      above : (k : ℕ) → length xs ≤ k → k < 2 * length xs - 2 → SpotHeld us' vs' k (nearest_of (box_at ns.hulls k) (spot_at us vs (get_or ns.parents k 0))) → SpotHeld us' vs' k (nearest_of (box_at ns.hulls k) (spot_at us' vs' (get_or ns.parents k 0)))
       above k g l z =
           let r = (rise k l).0 in
-          subst (λ (q : Spot). SpotHeld us' vs' k (nearest_of (box_at bs k) q)) (same_spot us vs us' vs' (get_or ps k 0) (w.kept_u (get_or ps k 0) (omega arith)) (w.kept_v (get_or ps k 0) (omega arith))) z
+          subst (λ (q : Spot). SpotHeld us' vs' k (nearest_of (box_at ns.hulls k) q)) (same_spot us vs us' vs' (get_or ns.parents k 0) (w.kept_u (get_or ns.parents k 0) (omega arith)) (w.kept_v (get_or ns.parents k 0) (omega arith))) z

@@ -1,19 +1,18 @@
 // Embedding a joining order.
-ghost use Rattle.std.specs.Prelude.{◌≤◌, length};
+ghost use Rattle.std.specs.Prelude.{◌-◌, ◌*◌, ◌≤◌, length};
 ghost use Rattle.plane.specs.Sinks.{prompt};
 ghost use Rattle.embedding.specs.Ready.{Ready, Embeds};
-ghost use Rattle.orders.specs.Arrays.{NodeRoom};
 ghost use Rattle.plane.specs.Said.{told};
 ghost use Rattle.embedding.specs.Permitted.{Permitted};
 
 use crate::{places, room, wires};
 use measures::boxes;
-use measures::boxes::Box;
+use orders::nodes::Nodes;
 use orders::{check, nodes};
 use plane::refusal::Refusal;
 
-// The same as `embed_sound`, in lent arrays: boxes, diameters and parents.
-fn embed_in(
+// The same as `embed_sound`, with room for N nodes.
+fn embed_with<const N: usize>(
     xs: &[i32],
     ys: &[i32],
     delays: &[u32],
@@ -21,38 +20,21 @@ fn embed_in(
     us: &mut [i32],
     vs: &mut [i32],
     ws: &mut [u32],
-    bs: &mut [Box],
-    ds: &mut [u32],
-    ps: &mut [u16],
 ) -> u32
-    requires { Ready xs.now ys.now delays.now js.now us.old vs.old ws.old × NodeRoom (length xs.now) bs.old ds.old ps.old }
+    requires { Ready xs.now ys.now delays.now js.now us.old vs.old ws.old × (2 * length xs.now - 1 ≤ N) × (N ≤ 1023) }
     ensures { Embeds xs.now ys.now delays.now js.now us.old vs.old ws.old result us.new vs.new ws.new }
 {
+    let mut nodes = Nodes::<N> {
+        hulls: [boxes::BLANK; N],
+        diameters: [0; N],
+        parents: [0; N],
+    };
     let n = xs.len();
-    let total = nodes::put_nodes(xs, ys, delays, js, bs, ds, ps);
-    places::join_places(bs, ds, ps, n, us, vs);
+    let total = nodes::put_nodes(xs, ys, delays, js, &mut nodes);
+    places::join_places(&nodes, n, us, vs);
     places::sink_places(xs, ys, us, vs);
-    wires::write_wires(ds, ps, n, ws);
+    wires::write_wires(&nodes, n, ws);
     total
-}
-
-// The same, of at most 12 sinks: to clear arrays for 512 would take longer than to embed them.
-fn embed_few(
-    xs: &[i32],
-    ys: &[i32],
-    delays: &[u32],
-    js: &[u16],
-    us: &mut [i32],
-    vs: &mut [i32],
-    ws: &mut [u32],
-) -> u32
-    requires { Ready xs.now ys.now delays.now js.now us.old vs.old ws.old × (length xs.now ≤ 12) }
-    ensures { Embeds xs.now ys.now delays.now js.now us.old vs.old ws.old result us.new vs.new ws.new }
-{
-    let mut bs = [boxes::BLANK; 23];
-    let mut ds = [0u32; 23];
-    let mut ps = [0u16; 23];
-    embed_in(xs, ys, delays, js, us, vs, ws, &mut bs, &mut ds, &mut ps)
 }
 
 // The places and the wires of all nodes, and the total, where the sinks and the joins are sound and the buffers have room.
@@ -68,13 +50,11 @@ pub fn embed_sound(
     requires { Ready xs.now ys.now delays.now js.now us.old vs.old ws.old }
     ensures { Embeds xs.now ys.now delays.now js.now us.old vs.old ws.old result us.new vs.new ws.new }
 {
+    // To clear room for the nodes of 512 sinks would take longer than to embed 12.
     if xs.len() <= 12 {
-        return embed_few(xs, ys, delays, js, us, vs, ws);
+        return embed_with::<23>(xs, ys, delays, js, us, vs, ws);
     }
-    let mut bs = [boxes::BLANK; 1023];
-    let mut ds = [0u32; 1023];
-    let mut ps = [0u16; 1023];
-    embed_in(xs, ys, delays, js, us, vs, ws, &mut bs, &mut ds, &mut ps)
+    embed_with::<1023>(xs, ys, delays, js, us, vs, ws)
 }
 
 // The same of sinks that have no delay.

@@ -4,10 +4,9 @@ ghost use Rattle.embedding.specs.Places.{Sized, AllPlaced, Low, spot_at, SpotHel
 ghost use Rattle.measures.specs.Spots.{root_of, nearest_of};
 ghost use Rattle.orders.specs.Table.{box_at};
 
-use measures::boxes::Box;
 use measures::segment::Spot;
 use measures::{measure, segment};
-use orders::joins;
+use orders::nodes::Nodes;
 use plane::bounds;
 
 // The place that the buffers hold for node k.
@@ -30,36 +29,34 @@ fn put_spot(us: &mut [i32], vs: &mut [i32], k: usize, s: Spot)
 }
 
 // The place of node k as the root.
-fn put_root(bs: &[Box], ds: &[u32], k: usize, us: &mut [i32], vs: &mut [i32])
-    requires { Placeable k bs.now ds.now us.old vs.old }
-    ensures { PutsSpot k (root_of (box_at bs.now k)) us.old vs.old us.new vs.new }
+fn put_root<const N: usize>(nodes: &Nodes<N>, k: usize, us: &mut [i32], vs: &mut [i32])
+    requires { Placeable k nodes.now us.old vs.old }
+    ensures { PutsSpot k (root_of (box_at nodes.now.hulls k)) us.old vs.old us.new vs.new }
 {
-    let s = segment::root_spot(bs[k], ds[k]);
+    let s = segment::root_spot(nodes.hulls[k], nodes.diameters[k]);
     put_spot(us, vs, k, s);
 }
 
 // The place of node k from that of its parent p.
-fn put_near(bs: &[Box], ds: &[u32], k: usize, p: usize, us: &mut [i32], vs: &mut [i32])
-    requires { Placeable k bs.now ds.now us.old vs.old × Has us.old vs.old p × SpotHeld us.old vs.old p (spot_at us.old vs.old p) }
-    ensures { PutsSpot k (nearest_of (box_at bs.now k) (spot_at us.old vs.old p)) us.old vs.old us.new vs.new }
+fn put_near<const N: usize>(nodes: &Nodes<N>, k: usize, p: usize, us: &mut [i32], vs: &mut [i32])
+    requires { Placeable k nodes.now us.old vs.old × Has us.old vs.old p × SpotHeld us.old vs.old p (spot_at us.old vs.old p) }
+    ensures { PutsSpot k (nearest_of (box_at nodes.now.hulls k) (spot_at us.old vs.old p)) us.old vs.old us.new vs.new }
 {
     let at = spot_at(us, vs, p);
-    let s = segment::nearest_spot(bs[k], ds[k], at);
+    let s = segment::nearest_spot(nodes.hulls[k], nodes.diameters[k], at);
     put_spot(us, vs, k, s);
 }
 
 // The root's place, then each join's from its parent's, which has a higher number: it is read back from the buffers.
-pub fn join_places(bs: &[Box], ds: &[u32], ps: &[u16], n: usize, us: &mut [i32], vs: &mut [i32])
-    requires { Sized n bs.now ds.now ps.now × (2 * n - 1 ≤ length us.old) × (2 * n - 1 ≤ length vs.old) }
-    ensures { PutsDown n bs.now ps.now n us.old vs.old us.new vs.new }
+pub fn join_places<const N: usize>(nodes: &Nodes<N>, n: usize, us: &mut [i32], vs: &mut [i32])
+    requires { Sized n nodes.now × (2 * n - 1 ≤ length us.old) × (2 * n - 1 ≤ length vs.old) }
+    ensures { PutsDown n nodes.now n us.old vs.old us.new vs.new }
 {
     let root = 2 * n - 2;
-    put_root(bs, ds, root, us, vs);
-    let mut k = root;
-    while n < k {
-        k -= 1;
-        let p = joins::entry(ps, k);
-        put_near(bs, ds, k, p, us, vs);
+    put_root(nodes, root, us, vs);
+    for k in (n..root).rev() {
+        let p = usize::from(nodes.parents[k]);
+        put_near(nodes, k, p, us, vs);
     }
 }
 
@@ -68,10 +65,8 @@ pub fn sink_places(xs: &[i32], ys: &[i32], us: &mut [i32], vs: &mut [i32])
     requires { AllPlaced xs.now ys.now × (length xs.now ≤ length us.old) × (length xs.now ≤ length vs.old) }
     ensures { PutsSinks xs.now ys.now (length xs.now) us.old vs.old us.new vs.new }
 {
-    let mut k = 0;
-    while k < xs.len() {
+    for k in 0..xs.len() {
         let s = segment::root_spot(bounds::place_at(xs, ys, k), 0);
         put_spot(us, vs, k, s);
-        k += 1;
     }
 }

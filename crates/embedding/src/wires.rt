@@ -3,18 +3,16 @@ ghost use Rattle.std.specs.Prelude.{◌≡◌, ◌-◌, ◌*◌, ◌≤◌, leng
 ghost use Rattle.lists.specs.Grow.{tab, front};
 ghost use Rattle.orders.specs.Arrays.{Climbs, wire_in};
 
-use orders::joins;
+use orders::nodes::Nodes;
 
-pub fn write_wires(ds: &[u32], ps: &[u16], n: usize, ws: &mut [u32])
-    requires { Climbs n ds.now ps.now × (2 * n - 1 ≤ length ws.old) }
-    ensures { ws.new ≡ front (tab (wire_in n ds.now ps.now) (2 * n - 1)) ws.old }
+pub fn write_wires<const N: usize>(nodes: &Nodes<N>, n: usize, ws: &mut [u32])
+    requires { Climbs n nodes.now × (2 * n - 1 ≤ length ws.old) }
+    ensures { ws.new ≡ front (tab (wire_in n nodes.now) (2 * n - 1)) ws.old }
 {
     let root = 2 * n - 2;
-    let mut k = 0;
-    while k < root {
-        let p = joins::entry(ps, k);
-        ws[k] = ds[p] - ds[k];
-        k += 1;
+    for k in 0..root {
+        let p = usize::from(nodes.parents[k]);
+        ws[k] = nodes.diameters[p] - nodes.diameters[k];
     }
     ws[root] = 0;
 }

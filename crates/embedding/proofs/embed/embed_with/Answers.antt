@@ -1,0 +1,14 @@
+use mathlib.Core.Path.{◌∙◌}
+use native.Mathlib.Omega.{arith}
+use Rattle.embedding.proofs.Whole.{all_sized, climbs, embeds}
+use Rattle.embedding.proofs.embed.embed_with.Goals as goal
+
+pub join_places-requires : goal.join_places-requires
+join_places-requires g c = (omega (arith, c.requires.2), (all_sized c.put_nodes-total.ensures.0, c.requires.0.room_u, c.requires.0.room_v))
+
+pub write_wires-requires : goal.write_wires-requires
+write_wires-requires g c = (omega (arith, c.requires.2), (climbs c.put_nodes-total.ensures.0, c.requires.0.room_w))
+
+pub returns : goal.returns
+returns g c =
+    embeds c.requires.0 c.put_nodes-total.ensures.0 c.put_nodes-total.ensures.1 (c.sink_places.auto.us ∙ c.join_places.auto.us) (c.sink_places.auto.vs ∙ c.join_places.auto.vs) c.join_places.ensures c.sink_places.ensures c.write_wires.ensures
