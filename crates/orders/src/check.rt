@@ -6,14 +6,15 @@ ghost use Rattle.orders.specs.Joins.{check_order};
 use crate::joins;
 use plane::refusal::Refusal;
 use plane::sinks;
+use plane::sinks::Sinks;
 
 // Refusals 1 to 4, 15 and 6: the sinks, then the joins.
 #[tactic(auto, unfolding(crate::specs::Joins::check_order))]
-pub fn check_order(xs: &[i32], ys: &[i32], delays: &[u32], js: &[u16]) -> Result<(), Refusal>
-    ensures { result ≡ check_order xs.now ys.now delays.now js.now }
+pub fn check_order(sinks: &Sinks<'_>, js: &[u16]) -> Result<(), Refusal>
+    ensures { result ≡ check_order sinks.now.xs.now sinks.now.ys.now sinks.now.delays.now js.now }
 {
-    sinks::check_sinks(xs, ys, delays, 512)?;
-    joins::check_joins(js, xs.len())
+    sinks.check(512)?;
+    joins::check_joins(js, sinks.xs.len())
 }
 
 // The same of sinks that have no delay, for which no list of zeros is lent.

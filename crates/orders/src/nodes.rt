@@ -1,13 +1,14 @@
 // The nodes of a sound joining order, bottom-up: their boxes, diameters and parents.
 ghost use Rattle.std.specs.Prelude.{◌≡◌, ◌-◌, ◌<◌, length};
-ghost use Rattle.plane.specs.Sinks.{sinks_at};
-ghost use Rattle.orders.specs.Sound.{Ordered, Sound};
+ghost use Rattle.plane.specs.Sinks.{sinks_in, count};
+ghost use Rattle.orders.specs.Sound.{Ordered, SoundFor};
 ghost use Rattle.orders.specs.Arrays.{Parents, NodeRoom, OwnRoom, PutsOwn, Up, PutsJoin, PutsJoins, AllNodes};
 ghost use Rattle.orders.specs.Nodes.{total};
 
 use crate::{joins, table};
 use measures::boxes;
 use measures::boxes::Box;
+use plane::sinks::Sinks;
 
 // What is kept of N nodes, by their number: the box of the sinks below, its diameter, and the parent.
 // One array for each part: in an array of structs, embedding takes a tenth longer.
@@ -63,19 +64,13 @@ fn put_joins<const N: usize>(js: &[u16], n: usize, nodes: &mut Nodes<N>) -> u64
 }
 
 // All nodes, and the total: the sum of the diameters of all joins, and the root's once more, without the sinks' own.
-pub fn put_nodes<const N: usize>(
-    xs: &[i32],
-    ys: &[i32],
-    delays: &[u32],
-    js: &[u16],
-    nodes: &mut Nodes<N>,
-) -> u32
-    requires { Sound xs.now ys.now delays.now js.now × NodeRoom (length xs.now) nodes.old }
-    ensures { AllNodes (sinks_at xs.now ys.now delays.now) js.now nodes.new × (result ≡ total (sinks_at xs.now ys.now delays.now) js.now) }
+pub fn put_nodes<const N: usize>(sinks: &Sinks<'_>, js: &[u16], nodes: &mut Nodes<N>) -> u32
+    requires { SoundFor sinks.now js.now × NodeRoom (count sinks.now) nodes.old }
+    ensures { AllNodes (sinks_in sinks.now) js.now nodes.new × (result ≡ total (sinks_in sinks.now) js.now) }
 {
-    let n = xs.len();
-    table::put_sinks(xs, ys, delays, &mut nodes.hulls);
-    let own = put_own(delays, &mut nodes.diameters);
+    let n = sinks.xs.len();
+    table::put_sinks(sinks, &mut nodes.hulls);
+    let own = put_own(sinks.delays, &mut nodes.diameters);
     let sum = put_joins(js, n, nodes);
     let root = 2 * n - 2;
     (sum + u64::from(nodes.diameters[root]) - own) as u32

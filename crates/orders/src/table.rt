@@ -1,17 +1,17 @@
 // The boxes of all sinks, in one list with those of all nodes.
 ghost use Rattle.std.specs.Prelude.{◌≤◌, length};
-ghost use Rattle.plane.specs.Sinks.{Fitting};
-ghost use Rattle.orders.specs.Table.{Sinked};
+ghost use Rattle.plane.specs.Sinks.{Fit, count};
+ghost use Rattle.orders.specs.Table.{SinkedBy};
 
 use measures::boxes::Box;
-use plane::bounds;
+use plane::sinks::Sinks;
 
 // The boxes of all sinks.
-pub fn put_sinks(xs: &[i32], ys: &[i32], delays: &[u32], bs: &mut [Box])
-    requires { Fitting xs.now ys.now delays.now × (length xs.now ≤ length bs.old) }
-    ensures { Sinked xs.now ys.now delays.now (length xs.now) bs.new }
+pub fn put_sinks(sinks: &Sinks<'_>, bs: &mut [Box])
+    requires { Fit sinks.now × (count sinks.now ≤ length bs.old) }
+    ensures { SinkedBy sinks.now bs.new }
 {
-    for i in 0..xs.len() {
-        bs[i] = bounds::sink_at(xs, ys, delays, i);
+    for i in 0..sinks.xs.len() {
+        bs[i] = sinks.box_at(i);
     }
 }

@@ -53,7 +53,7 @@ fn box_sound(sinks: &Sinks<'_>) -> Box
     ensures { Covers (sinks_in sinks.now) (up_to (count sinks.now)) result }
 {
     let mut b = sinks.box_at(0);
-    for i in 1..sinks.len() {
+    for i in 1..sinks.xs.len() {
         b = boxes::hull(b, sinks.box_at(i));
     }
     b

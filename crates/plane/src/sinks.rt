@@ -79,13 +79,6 @@ pub fn place_at(xs: &[i32], ys: &[i32], i: usize) -> Box
 }
 
 impl Sinks<'_> {
-    // How many there are.
-    pub fn len(&self) -> usize
-        ensures { result ≡ count self.now }
-    {
-        self.xs.len()
-    }
-
     // Refusals 1 to 4 and 15 in order, where at most `limit` sinks are taken.
     #[tactic(auto, using(crate::proofs::Found::late_found), unfolding(crate::specs::Sinks::check_sinks))]
     pub fn check(&self, limit: usize) -> Result<(), Refusal>
