@@ -2,6 +2,8 @@
 use Rattle.std.specs.Prelude.{◌≡◌, List, ℕ, ℤ, length}
 use Rattle.lists.specs.Grow.{front}
 use Rattle.plane.specs.Sinks.{sinks_at}
+use Rattle.plane.specs.declared.sinks.Sinks as lent
+use Rattle.embedding.specs.declared.layout.Layout.{Layout}
 use Rattle.plane.specs.Said.{Said, if_answered}
 use Rattle.orders.specs.Nodes.{places_u, places_v, wires}
 use Rattle.embedding.specs.Embedding.{answer}
@@ -12,3 +14,7 @@ pub record Permitted (xs ys : List ℤ) (delays js : List ℕ) (us vs : List ℤ
   pub writes_u : us' ≡ front (if_answered said (places_u (sinks_at xs ys delays) js)) us
   pub writes_v : vs' ≡ front (if_answered said (places_v (sinks_at xs ys delays) js)) vs
   pub writes_w : ws' ≡ front (if_answered said (wires (sinks_at xs ys delays) js)) ws
+
+-- the same of what a caller lends
+abbrev pub PermittedIn : lent.Sinks → List ℕ → Layout → Said ℕ → Layout → Type 0
+PermittedIn s js l said l' = Permitted s.xs.now s.ys.now s.delays.now js l.us.now l.vs.now l.ws.now said l'.us.now l'.vs.now l'.ws.now

@@ -2,6 +2,8 @@
 use Rattle.std.specs.Prelude.{◌≡◌, List, ℕ, ◌-◌, ◌*◌, ◌≤◌, ℤ, length}
 use Rattle.lists.specs.Grow.{front}
 use Rattle.plane.specs.Sinks.{sinks_at}
+use Rattle.plane.specs.declared.sinks.Sinks as lent
+use Rattle.embedding.specs.declared.layout.Layout.{Layout}
 use Rattle.orders.specs.Nodes.{places_u, places_v, wires, total}
 use Rattle.orders.specs.Sound.{Sound}
 
@@ -18,3 +20,10 @@ pub record Embeds (xs ys : List ℤ) (delays js : List ℕ) (us vs : List ℤ) (
   pub writes_u : us' ≡ front (places_u (sinks_at xs ys delays) js) us
   pub writes_v : vs' ≡ front (places_v (sinks_at xs ys delays) js) vs
   pub writes_w : ws' ≡ front (wires (sinks_at xs ys delays) js) ws
+
+-- the same of what a caller lends
+abbrev pub ReadyIn : lent.Sinks → List ℕ → Layout → Type 0
+ReadyIn s js l = Ready s.xs.now s.ys.now s.delays.now js l.us.now l.vs.now l.ws.now
+
+abbrev pub EmbedsIn : lent.Sinks → List ℕ → Layout → ℕ → Layout → Type 0
+EmbedsIn s js l t l' = Embeds s.xs.now s.ys.now s.delays.now js l.us.now l.vs.now l.ws.now t l'.us.now l'.vs.now l'.ws.now

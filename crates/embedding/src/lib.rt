@@ -2,6 +2,6 @@
 #![tactic(auto)]
 
 pub mod embed;
+pub mod layout;
 mod places;
-pub mod room;
 mod wires;

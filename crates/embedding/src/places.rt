@@ -7,7 +7,7 @@ ghost use Rattle.orders.specs.Table.{box_at};
 use measures::segment::Spot;
 use measures::{measure, segment};
 use orders::nodes::Nodes;
-use plane::bounds;
+use plane::sinks;
 
 // The place that the buffers hold for node k.
 fn spot_at(us: &[i32], vs: &[i32], k: usize) -> Spot
@@ -66,7 +66,7 @@ pub fn sink_places(xs: &[i32], ys: &[i32], us: &mut [i32], vs: &mut [i32])
     ensures { PutsSinks xs.now ys.now (length xs.now) us.old vs.old us.new vs.new }
 {
     for k in 0..xs.len() {
-        let s = segment::root_spot(bounds::place_at(xs, ys, k), 0);
+        let s = segment::root_spot(sinks::place_at(xs, ys, k), 0);
         put_spot(us, vs, k, s);
     }
 }
