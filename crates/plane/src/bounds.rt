@@ -41,6 +41,7 @@ pub fn ends(b: Box) -> Extent
 }
 
 // The diameter of a box, whatever numbers it holds.
+#[tactic(auto, using(crate::proofs::Unlifted::diam_is))]
 pub fn diameter(b: Box) -> u32
     ensures { result ≡ across (bounds b) }
 {
@@ -60,7 +61,7 @@ fn box_sound(sinks: &Sinks<'_>) -> Box
 }
 
 // The box of all sinks, or refusal 1 to 4 or 15.
-#[tactic(auto, unfolding(crate::specs::Bounds::box_answer))]
+#[tactic(auto, using(crate::proofs::Checks::accepted, crate::proofs::Checks::fitting, crate::proofs::Covering::covers_box), unfolding(crate::specs::Bounds::box_answer))]
 pub fn box_of(sinks: &Sinks<'_>) -> Result<Box, Refusal>
     ensures { seen result ≡ box_answer sinks.now.xs.now sinks.now.ys.now sinks.now.delays.now }
 {
