@@ -137,7 +137,7 @@ module _ (ds t ss : List ℕ) (h l : ℕ) (n : Next ds t ss h l) (b : l < 8) (o 
 
   pub entry_is : set t (8 * h + l) (d + v) ≡ foldl (step_of (held ds)) t (map (pair_up (8 * h + l)) (splits (8 * h + l)))
   entry_is =
-      subset_is (held ds) t (8 * h + l) d (8 * h + l) (d + v) (splits (8 * h + l)) (parts_splits (8 * h + l) pos) (omega (arith, n.block.room)) is-d refl
+      subset_is (held ds) t (8 * h + l) d (d + v) (splits (8 * h + l)) (parts_splits (8 * h + l) pos) (omega (arith, n.block.room)) is-d
       (value_is d t (8 * h + l) v pos few_low short_d n.block.within o least_is
       ∙ ap (λ (x : ℕ). foldl (better_at d t (8 * h + l)) x (splits (8 * h + l))) (sym (n.block.blank l (omega arith) b ∙ large (ones (8 * h + l)) o)))
 
@@ -152,7 +152,6 @@ next_more ds t t2 ss h l n b e =
             some = k.some;
             few = k.few;
             room = omega (arith, size, k.room);
-            room_ds = k.room_ds;
             short = k.short;
             within = λ i q.
                 within_more (held ds) t (8 * h + l) (omega (arith, k.some)) (omega (arith, k.few)) (k.short l b) k.within (k.blank l (omega arith) b) t2 (omega (arith, k.room)) e i (omega arith);

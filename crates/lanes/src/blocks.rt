@@ -12,7 +12,7 @@ use subsets::{square, subset};
 
 // Takes all steps of the subset of the high set h and the low sinks `low`, whose lanes stand from one place to another.
 fn fill_low(
-    ds: &[u32],
+    ds: &[u32; 4096],
     table: &mut [u32],
     sums: &[u32; 28],
     h: u32,
@@ -30,7 +30,7 @@ fn fill_low(
 }
 
 // Takes all steps of the subsets of the high set h and one low sink or more.
-fn fill_lows(ds: &[u32], table: &mut [u32], sums: &[u32; 28], h: u32)
+fn fill_lows(ds: &[u32; 4096], table: &mut [u32], sums: &[u32; 28], h: u32)
     requires { Next ds.now table.old sums.now h 1 }
     ensures { table.new ≡ foldl (step_of (held ds.now)) table.old (steps_of (rising 7 (8 * h + 1))) }
 {
@@ -44,7 +44,7 @@ fn fill_lows(ds: &[u32], table: &mut [u32], sums: &[u32; 28], h: u32)
 }
 
 // Takes all steps of the block of the high set h. A single sink has none.
-fn fill_block(ds: &[u32], table: &mut [u32], rows: &[u32], h: u32)
+fn fill_block(ds: &[u32; 4096], table: &mut [u32], rows: &[u32], h: u32)
     requires { Opened ds.now table.old rows.now h }
     ensures { table.new ≡ foldl (step_of (held ds.now)) table.old (steps_of (rising 8 (8 * h))) }
 {
@@ -57,7 +57,7 @@ fn fill_block(ds: &[u32], table: &mut [u32], rows: &[u32], h: u32)
 }
 
 // Takes all steps of the blocks of n sinks but the first.
-fn fill_blocks(ds: &[u32], table: &mut [u32], rows: &mut [u32], n: u32)
+fn fill_blocks(ds: &[u32; 4096], table: &mut [u32], rows: &mut [u32], n: usize)
     requires { Begun n ds.now table.old × (7 * 2 ^ n ≤ length rows.old) × Modest rows.old }
     ensures { table.new ≡ foldl (step_of (held ds.now)) table.old (steps_of (rising (2 ^ n - 8) 8)) }
 {
@@ -69,7 +69,7 @@ fn fill_blocks(ds: &[u32], table: &mut [u32], rows: &mut [u32], n: u32)
 }
 
 // The same, with room for so many numbers in the rows. They are cleared before they are filled in, so a caller asks for no more than n sinks need.
-fn fill_with<const ROWS: usize>(ds: &[u32], table: &mut [u32], n: u32)
+fn fill_with<const ROWS: usize>(ds: &[u32; 4096], table: &mut [u32], n: usize)
     requires { Begun n ds.now table.old × (7 * 2 ^ n ≤ ROWS) × (ROWS ≤ 28672) }
     ensures { table.new ≡ foldl (step_of (held ds.now)) table.old (steps_of (rising (2 ^ n - 8) 8)) }
 {
@@ -78,7 +78,7 @@ fn fill_with<const ROWS: usize>(ds: &[u32], table: &mut [u32], n: u32)
 }
 
 // Takes all steps of the subsets from 8 on.
-pub fn fill_rest(ds: &[u32], table: &mut [u32], n: u32)
+pub fn fill_rest(ds: &[u32; 4096], table: &mut [u32], n: usize)
     requires { Begun n ds.now table.old }
     ensures { table.new ≡ foldl (step_of (held ds.now)) table.old (steps_of (rising (2 ^ n - 8) 8)) }
 {
