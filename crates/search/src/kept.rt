@@ -49,7 +49,14 @@ fn put(out: &mut [u16], i: usize, x: u16, y: u16)
 }
 
 // Writes the joins of s as pairs, where `made` joins are made before, and returns how many are made then.
-pub fn joins(ds: &[u32; 4096], table: &[u32], n: usize, s: u32, out: &mut [u16], made: usize) -> usize
+pub fn joins(
+    ds: &[u32; 4096],
+    table: &[u32],
+    n: usize,
+    s: u32,
+    out: &mut [u16],
+    made: usize,
+) -> usize
     requires { (0 < n) × (n ≤ 12) × (0 < s) × (s < 2 ^ 12) × (s < length table.now) × (made + ones s ≤ 12) × (2 * (made + (ones s - 1)) ≤ length out.old) }
     ensures value { result ≡ made + (ones s - 1) }
     ensures out_after { out.new ≡ sets out.old (2 * made) (pairs_of n (kept_order (held ds.now) table.now s) made) }
