@@ -140,9 +140,9 @@ fn clear(table: &mut [u32], n: usize)
     requires { (n ≤ 12) × (2 ^ n ≤ length table.old) }
     ensures { table.new ≡ front (blanks n) table.old }
 {
-    let size = subset::subsets(n);
-    for s in 0..size {
-        table[s as usize] = subset::blank(s);
+    let blanks = &mut table[..subset::subsets(n) as usize];
+    for (s, best) in blanks.iter_mut().enumerate() {
+        *best = subset::blank(s as u32);
     }
 }
 
