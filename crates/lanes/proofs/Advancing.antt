@@ -6,11 +6,10 @@ use Prim.Native.Nat.{ℕ, suc, ◌+◌, ◌-◌, ◌*◌, ◌^◌, ◌≤◌, �
 use native.Mathlib.Nat.{pow-succ'}
 use native.Mathlib.Omega.{arith}
 use lib.Count.{ones}
-use lib.ListN.{length, get_or, drop, replicate, length-append, get_or-append}
+use lib.ListN.{length, get_or, drop, length-append, get_or-append}
 use lib.Pow.{pow_mono}
 use lib.Seq.{take_all}
 use Rattle.lists.specs.Grow.{front}
-use Rattle.lists.proofs.Zeros.{zeros}
 use Rattle.subsets.specs.Best.{step_count}
 use Rattle.lanes.specs.Blocks.{Begun, Blank, Dealt, Deals, Modest, Opened, Short, Within, to_first, to_second}
 use Rattle.subsets.specs.Square.{held}
@@ -38,10 +37,6 @@ dealt_kept t t2 rows h same d =
       first = λ g k p q b. d.first g k p q b ∙ sym (same (8 * g + get_or to_first k 0) (omega (arith, (low_parts k).0)));
       second = λ g k p q b. d.second g k p q b ∙ sym (same (8 * g + get_or to_second k 0) (omega (arith, (low_parts k).1)));
     }
-
--- rows that nothing was put into
-pub clear_rows : (n m : ℕ) → n ≤ m → (7 * 2 ^ n ≤ 7 * 2 ^ m) × Modest (replicate (7 * 2 ^ m) 0)
-clear_rows n m h = (omega (arith, pow_mono {i = n} {j = m} h), λ i. omega (arith, zeros (7 * 2 ^ m) i))
 
 -- how many blocks n sinks have
 pub eight_blocks : (n size : ℕ) → 3 ≤ n → size ≡ 2 ^ (n - 3) → 8 * size ≡ 2 ^ n
@@ -73,7 +68,6 @@ module _ (n : ℕ) (ds t₀ : List ℕ) (b : Begun n ds t₀) where
                 some = a.some;
                 few = omega (arith, few);
                 room = omega (arith, size, b.room);
-                room_ds = omega (arith, b.room_ds);
                 short = λ k q. b.short (8 * h + k) (omega arith);
                 within = λ i q. a.within i (omega arith);
                 blank = λ k p q. a.blank (8 * h + k) (omega arith) (omega arith);
@@ -124,13 +118,12 @@ module _ (n : ℕ) (ds u t₀ t : List ℕ) (many : 3 ≤ n) (cleared : t₀ ≡
   unfolding ones
   empty i h = let z : i ≡ 0 = omega arith in omega (arith, ap (λ (j : ℕ). get_or t₀ j 0) z, fresh 0 (omega (arith, eight)))
 
-  pub begun : n ≤ 12 → 2 ^ n ≤ length ds → Short n ds → Begun n ds t
-  begun few room_ds short =
+  pub begun : n ≤ 12 → Short n ds → Begun n ds t
+  begun few short =
       record {
         many = many;
         few = few;
         room = omega (arith, room, ap length first, fold_length (held ds) t₀ (steps 3));
-        room_ds = room_ds;
         short = short;
         within =
             subst (Within 8) (sym run)

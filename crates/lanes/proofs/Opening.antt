@@ -135,9 +135,9 @@ module _ (ds t ss : List ℕ) (h l : ℕ) (n : Next ds t ss h l) (b : l < 8) (o 
   pub entry_fits : d + v ≤ 72000000
   entry_fits = omega (arith, least_is, value_small d t (8 * h + l) pos short_d n.block.within o, ones-le 12 (8 * h + l) few_low)
 
-  pub entry_is : (p : ℕ) → p ≡ 8 * h + l → set t p (d + v) ≡ foldl (step_of (held ds)) t (map (pair_up (8 * h + l)) (splits (8 * h + l)))
-  entry_is p ep =
-      subset_is (held ds) t (8 * h + l) d p (d + v) (splits (8 * h + l)) (parts_splits (8 * h + l) pos) (omega (arith, n.block.room)) is-d ep
+  pub entry_is : set t (8 * h + l) (d + v) ≡ foldl (step_of (held ds)) t (map (pair_up (8 * h + l)) (splits (8 * h + l)))
+  entry_is =
+      subset_is (held ds) t (8 * h + l) d (d + v) (splits (8 * h + l)) (parts_splits (8 * h + l) pos) (omega (arith, n.block.room)) is-d
       (value_is d t (8 * h + l) v pos few_low short_d n.block.within o least_is
       ∙ ap (λ (x : ℕ). foldl (better_at d t (8 * h + l)) x (splits (8 * h + l))) (sym (n.block.blank l (omega arith) b ∙ large (ones (8 * h + l)) o)))
 
@@ -152,7 +152,6 @@ next_more ds t t2 ss h l n b e =
             some = k.some;
             few = k.few;
             room = omega (arith, size, k.room);
-            room_ds = k.room_ds;
             short = k.short;
             within = λ i q.
                 within_more (held ds) t (8 * h + l) (omega (arith, k.some)) (omega (arith, k.few)) (k.short l b) k.within (k.blank l (omega arith) b) t2 (omega (arith, k.room)) e i (omega arith);

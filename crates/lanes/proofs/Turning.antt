@@ -67,12 +67,12 @@ lanewise_start {rows} {h} {sums} {rest} n pos e = record {
 }
 
 pub lanewise_turn : {rows : List ℕ} {h : ℕ} {sums₀ : List ℕ} {other rest a b : ℕ} {sums sums' : List ℕ} → 0 < h → rest ≡ h - 2 ^ lowest h → 0 < other
-    → Lanewise rows h sums₀ other sums → a ≡ 56 * (h - other) → b ≡ 56 * other + 28 → length sums' ≡ length sums → Meets rows a b sums sums'
+    → Lanewise rows h sums₀ other sums → a ≡ 56 * (h - other) → b ≡ 56 * other + 28 → length sums' ≡ 28 → Meets rows a b sums sums'
     → Lanewise rows h sums₀ (bit_and (other - 1) rest) sums'
 lanewise_turn {rows} {h} {sums₀} {other} {rest} {a} {b} {sums} {sums'} pos er more i ea eb n m =
     subst (λ (r : ℕ). Lanewise rows h sums₀ (bit_and (other - 1) r) sums') (sym er)
     record {
-      count = n ∙ i.count;
+      count = n;
       below = omega (arith, i.below, and_le_l (other - 1) (h - 2 ^ lowest h));
       inside = sub_and (h - 2 ^ lowest h) (other - 1);
       least = turn;

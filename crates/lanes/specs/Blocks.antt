@@ -91,7 +91,6 @@ pub record Begun (n : ℕ) (ds t : List ℕ) : Type 0 where
   pub many : 3 ≤ n
   pub few : n ≤ 12
   pub room : 2 ^ n ≤ length t
-  pub room_ds : 2 ^ n ≤ length ds
   pub short : Short n ds
   pub within : Within 8 t
   pub blank : Blank n 8 t
@@ -101,7 +100,6 @@ pub record Block (ds t : List ℕ) (h l : ℕ) : Type 0 where
   pub some : 0 < h
   pub few : h < 512
   pub room : 8 * h + 8 ≤ length t
-  pub room_ds : 8 * h + 8 ≤ length ds
   pub short : (k : ℕ) → k < 8 → held ds (8 * h + k) ≤ 6000000
   pub within : Within (8 * h + l) t
   pub blank : (k : ℕ) → l ≤ k → k < 8 → get_or t (8 * h + k) 0 ≡ blank_of (8 * h + k)

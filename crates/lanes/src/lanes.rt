@@ -1,32 +1,25 @@
 // Rows of lanes: for each high set, what the table says of the first part and of the second in each of the 27 ways to deal the three lowest sinks. A split of a high set is then one sum of two rows, and many
 // lanes at a time can be looked at. A row has one lane more that nobody looks at.
-ghost use Rattle.std.specs.Prelude.{◌≡◌, [], ◌∷◌, ◌<◌, ◌≤◌, ◌+◌, ◌*◌, min, length, take, drop};
-ghost use Rattle.lanes.specs.Blocks.{to_first, to_second, Modest, Meets, Summed, Lays, Deals};
+ghost use Rattle.std.specs.Prelude.{◌≡◌, [], ◌∷◌, ◌<◌, ◌≤◌, ◌^◌, ◌-◌, ◌+◌, ◌*◌, length, get_or, take, drop};
+ghost use Rattle.subsets.specs.Subsets.{rising};
+ghost use Rattle.lanes.specs.Blocks.{to_first, to_second, least_with, parts_to, split_off_lane, Modest, Within, Meets, Summed, Lays, Deals};
 
 use subsets::subset;
 
-// The smaller of two.
-pub fn smaller(x: u32, y: u32) -> u32
-    ensures { result ≡ min x y }
-{
-    if x < y { x } else { y }
-}
-
 // One turn: in each lane, the row at a for the first part and the row at b for the second.
-fn meet(rows: &[u32], a: usize, b: usize, sums: &mut [u32])
-    requires { (length sums.old ≡ 28) × (a + 28 ≤ length rows.now) × (b + 28 ≤ length rows.now) × Modest rows.now }
+fn meet(rows: &[u32], a: usize, b: usize, sums: &mut [u32; 28])
+    requires { (a + 28 ≤ length rows.now) × (b + 28 ≤ length rows.now) × Modest rows.now }
     ensures { Meets rows.now a b sums.old sums.new }
 {
-    let mut k = 0;
-    while k < 28 {
-        sums[k] = smaller(sums[k], rows[a + k] + rows[b + k]);
-        k += 1;
+    for (k, sum) in sums.iter_mut().enumerate() {
+        let met = rows[a + k] + rows[b + k];
+        *sum = (*sum).min(met);
     }
 }
 
 // All turns of the high set h.
-pub fn lane_sums(rows: &[u32], h: u32, sums: &mut [u32])
-    requires { (0 < h) × (56 * h ≤ length rows.now) × (length sums.old ≡ 28) × Modest rows.now }
+pub fn lane_sums(rows: &[u32], h: u32, sums: &mut [u32; 28])
+    requires { (0 < h) × (56 * h ≤ length rows.now) × Modest rows.now }
     ensures { Summed rows.now h sums.old sums.new }
 {
     let rest = subset::beyond(h);
@@ -34,12 +27,39 @@ pub fn lane_sums(rows: &[u32], h: u32, sums: &mut [u32])
     while other != 0 {
         meet(
             rows,
-            56 * subset::place(h - other),
-            56 * subset::place(other) + 28,
+            56 * (h - other) as usize,
+            56 * other as usize + 28,
             sums,
         );
         other = (other - 1) & rest;
     }
+}
+
+// The least of the lanes from one place to another.
+pub fn least_lane(sums: &[u32; 28], from: usize, end: usize) -> u32
+    requires { (from ≤ end) × (end ≤ 28) }
+    ensures { result ≡ least_with (λ k. get_or sums.now k 0) 4294967295 (rising (end - from) from) }
+{
+    let mut least = u32::MAX;
+    for k in from..end {
+        least = least.min(sums[k]);
+    }
+    least
+}
+
+// The least of v and of the splits of s into some of its low sinks and the rest.
+pub fn least_low(table: &[u32], s: u32, low: u32, v: u32) -> u32
+    requires { (low < 8) × (8 ≤ s) × (s < length table.now) × (s < 2 ^ 12) × Within s table.now }
+    ensures { result ≡ least_with (split_off_lane table.now s) v (parts_to low low) }
+{
+    let mut least = v;
+    let mut part = low;
+    while part != 0 {
+        let met = table[(s - part) as usize] + table[part as usize];
+        least = least.min(met);
+        part = (part - 1) & low;
+    }
+    least
 }
 
 // One lane, at a place of the two rows: the first part has the low sinks p, the second q.
@@ -106,8 +126,8 @@ pub fn put_rows(table: &[u32], rows: &mut [u32], h: u32)
     requires { (8 * h + 8 ≤ length table.now) × (56 * h + 56 ≤ length rows.old) }
     ensures { Deals table.now h rows.old rows.new }
 {
-    let from = 56 * subset::place(h);
-    let base = 8 * subset::place(h);
+    let from = 56 * h as usize;
+    let base = 8 * h as usize;
     put_most(table, base, rows, from);
     put_few(table, base, rows, from + 20);
 }

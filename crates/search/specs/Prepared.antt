@@ -28,7 +28,6 @@ pub record Provided (xs ys : List ℤ) (delays table js : List ℕ) (us vs : Lis
 -- the diameters of the sinks' subsets, and their table after the steps of the budget
 pub record Tabled (xs ys : List ℤ) (delays : List ℕ) (budget : ℕ) (ds table js : List ℕ) : Type 0 where
   pub prepared : Prepared xs ys delays table js
-  pub room_ds : 2 ^ length xs ≤ length ds
   pub diameters : (m : ℕ) → m < 2 ^ length xs → held ds m ≡ diam (sinks_at xs ys delays) m
   pub after : take (2 ^ length xs) table ≡ table_after (held ds) (length xs) budget
 

@@ -6,18 +6,17 @@ ghost use Rattle.lists.specs.Grow.{front};
 ghost use Rattle.subsets.specs.Square.{held};
 ghost use Rattle.subsets.specs.Kept.{kept_part, kept_order, pairs_of, node_of};
 
-use measures::measure;
 use splits::fill;
 use subsets::{square, subset};
 
 // The part with the lowest sink, in the split of s that is kept.
-fn kept(ds: &[u32], table: &[u32], s: u32) -> u32
-    requires { (0 < s) × (s < 2 ^ 12) × (s < length table.now) × (s < length ds.now) }
+fn kept(ds: &[u32; 4096], table: &[u32], s: u32) -> u32
+    requires { (0 < s) × (s < 2 ^ 12) × (s < length table.now) }
     ensures { result ≡ kept_part (held ds.now) table.now s }
 {
     let d = square::diameter(ds, s);
     let rest = subset::beyond(s);
-    let goal = measure::wide(table[subset::place(s)]);
+    let goal = u64::from(table[s as usize]);
     let mut other = rest;
     while other != 0 {
         if fill::cost(table, d, s, other) == goal {
@@ -33,7 +32,7 @@ fn node(s: u32, n: usize, made: usize) -> u16
     requires { (0 < s) × (0 < n) × (n ≤ 12) × (made ≤ 12) }
     ensures { result ≡ node_of n s made }
 {
-    if u32::count_ones(s) < 2 {
+    if s.count_ones() < 2 {
         subset::first(s) as u16
     } else {
         (n + made - 1) as u16
@@ -50,12 +49,19 @@ fn put(out: &mut [u16], i: usize, x: u16, y: u16)
 }
 
 // Writes the joins of s as pairs, where `made` joins are made before, and returns how many are made then.
-pub fn joins(ds: &[u32], table: &[u32], n: usize, s: u32, out: &mut [u16], made: usize) -> usize
-    requires { (0 < n) × (n ≤ 12) × (0 < s) × (s < 2 ^ 12) × (s < length table.now) × (made + ones s ≤ 12) × (2 * (made + (ones s - 1)) ≤ length out.old) × (s < length ds.now) }
+pub fn joins(
+    ds: &[u32; 4096],
+    table: &[u32],
+    n: usize,
+    s: u32,
+    out: &mut [u16],
+    made: usize,
+) -> usize
+    requires { (0 < n) × (n ≤ 12) × (0 < s) × (s < 2 ^ 12) × (s < length table.now) × (made + ones s ≤ 12) × (2 * (made + (ones s - 1)) ≤ length out.old) }
     ensures value { result ≡ made + (ones s - 1) }
     ensures out_after { out.new ≡ sets out.old (2 * made) (pairs_of n (kept_order (held ds.now) table.now s) made) }
 {
-    if u32::count_ones(s) < 2 {
+    if s.count_ones() < 2 {
         return made;
     }
     let a = kept(ds, table, s);
@@ -67,11 +73,10 @@ pub fn joins(ds: &[u32], table: &[u32], n: usize, s: u32, out: &mut [u16], made:
 }
 
 // Writes the joins of all n sinks, by the table of their subsets.
-pub fn write_kept(ds: &[u32], table: &[u32], n: usize, js: &mut [u16])
-    requires { (0 < n) × (n ≤ 12) × (2 ^ n ≤ length table.now) × (2 * (n - 1) ≤ length js.old) × (2 ^ n ≤ length ds.now) }
+pub fn write_kept(ds: &[u32; 4096], table: &[u32], n: usize, js: &mut [u16])
+    requires { (0 < n) × (n ≤ 12) × (2 ^ n ≤ length table.now) × (2 * (n - 1) ≤ length js.old) }
     ensures { js.new ≡ front (pairs_of n (kept_order (held ds.now) (take (2 ^ n) table.now) (2 ^ n - 1)) 0) js.old }
 {
-    let all = subset::subsets(subset::sinks(n));
-    let size = subset::place(all);
-    joins(ds, &table[0..size], n, all - 1, js, 0);
+    let all = subset::subsets(n);
+    joins(ds, &table[..all as usize], n, all - 1, js, 0);
 }

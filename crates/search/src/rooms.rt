@@ -12,7 +12,7 @@ fn check_rooms(n: usize, table: usize, js: usize, us: usize, vs: usize, ws: usiz
     requires { (0 < n) × (n ≤ 12) }
     ensures { result ≡ check_rooms n table js us vs ws }
 {
-    if table < subset::place(subset::subsets(subset::sinks(n))) {
+    if table < subset::subsets(n) as usize {
         return Err(Refusal::Room);
     }
     if js < 2 * (n - 1) {

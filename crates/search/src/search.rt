@@ -27,7 +27,7 @@ fn write_joins(
     ys: &[i32],
     delays: &[u32],
     budget: u64,
-    ds: &[u32],
+    ds: &[u32; 4096],
     table: &[u32],
     js: &mut [u16],
 )
@@ -54,8 +54,8 @@ fn search_joins(
     requires { Prepared xs.now ys.now delays.now table.old js.old }
     ensures { Joins xs.now ys.now delays.now budget table.old js.old result table.new js.new }
 {
-    let n = subset::sinks(xs.len());
-    let mut ds: [u32; 4096] = [0; 4096];
+    let n = xs.len();
+    let mut ds = [0u32; 4096];
     square::diameters(square::square(xs, ys, delays), &mut ds, n);
     let steps = fill::fill(&ds, table, n, budget);
     write_joins(xs, ys, delays, budget, &ds, table, js);

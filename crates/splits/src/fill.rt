@@ -10,7 +10,6 @@ ghost use Rattle.lanes.specs.Blocks.{Short};
 ghost use Rattle.lanes.specs.Sums.{Leading, apart, sums, three_of};
 
 use lanes::blocks;
-use measures::measure;
 use subsets::{square, subset};
 
 // What the two parts of a split of s come to: `other`, and the part that holds the lowest sink.
@@ -18,7 +17,7 @@ fn parts(table: &[u32], s: u32, other: u32) -> u64
     requires { (other ≤ s) × (s < length table.now) }
     ensures { (result < 2 ^ 33) × (result ≡ apart table.now s other) }
 {
-    measure::wide(table[subset::place(s - other)]) + measure::wide(table[subset::place(other)])
+    u64::from(table[(s - other) as usize]) + u64::from(table[other as usize])
 }
 
 // What the split of s into `other` and the part that holds the lowest sink comes to.
@@ -26,14 +25,7 @@ pub fn cost(table: &[u32], d: u32, s: u32, other: u32) -> u64
     requires { (0 < other) × (other ≤ s) × (s < length table.now) }
     ensures { result ≡ d + get_or table.now (s - other) 0 + get_or table.now other 0 }
 {
-    measure::wide(d) + parts(table, s, other)
-}
-
-// The smaller of two.
-fn smaller(x: u64, y: u64) -> u64
-    ensures { result ≡ min x y }
-{
-    if x < y { x } else { y }
+    u64::from(d) + parts(table, s, other)
 }
 
 // The least that three splits of s come to: those of `other` with both its second and third sink, with the third, and with the second.
@@ -41,13 +33,9 @@ fn three(table: &[u32], s: u32, other: u32, second: u32, third: u32) -> u64
     requires { (other + third + second ≤ s) × (s < length table.now) }
     ensures { (result < 2 ^ 33) × (result ≡ three_of table.now s other second third) }
 {
-    smaller(
-        smaller(
-            parts(table, s, other + third + second),
-            parts(table, s, other + third),
-        ),
-        parts(table, s, other + second),
-    )
+    parts(table, s, other + third + second)
+        .min(parts(table, s, other + third))
+        .min(parts(table, s, other + second))
 }
 
 // The least that the splits of s come to without its diameter, where `last` is s without its first three sinks. They are met four by four, so that the turn to the next part of `last` is paid
@@ -60,7 +48,7 @@ fn least_of_fours(table: &[u32], s: u32, second: u32, third: u32, last: u32) -> 
     let mut least = three(table, s, 0, second, third);
     while other != 0 {
         let with = three(table, s, other, second, third);
-        least = smaller(least, smaller(with, parts(table, s, other)));
+        least = least.min(with.min(parts(table, s, other)));
         other = (other - 1) & last;
     }
     least
@@ -84,17 +72,13 @@ fn examine_all(table: &[u32], d: u32, s: u32) -> u32
     requires { (0 < s) × (s < length table.now) }
     ensures { result ≡ foldl (better_at d table.now s) (get_or table.now s 0) (splits s) }
 {
-    let best = table[subset::place(s)];
+    let best = table[s as usize];
     let rest = subset::beyond(s);
     if rest == 0 {
         return best;
     }
-    let sum = measure::wide(d) + least_parts(table, s, rest);
-    if sum < measure::wide(best) {
-        sum as u32
-    } else {
-        best
-    }
+    let sum = u64::from(d) + least_parts(table, s, rest);
+    sum.min(u64::from(best)) as u32
 }
 
 // The least that examined splits come to, and what is left of a budget.
@@ -112,22 +96,17 @@ fn examine_some(table: &[u32], d: u32, s: u32, budget: u64) -> Examined
     let rest = subset::beyond(s);
     let mut other = rest;
     let mut left = budget;
-    let mut best = table[subset::place(s)];
+    let mut best = table[s as usize];
     while other != 0 {
         if left == 0 {
             break;
         }
         let sum = cost(table, d, s, other);
-        if sum < measure::wide(best) {
-            best = sum as u32;
-        }
+        best = sum.min(u64::from(best)) as u32;
         other = (other - 1) & rest;
         left -= 1;
     }
-    Examined {
-        least: best,
-        left: left,
-    }
+    Examined { least: best, left }
 }
 
 // The same, at once where the budget goes to the end.
@@ -146,75 +125,69 @@ fn examine(table: &[u32], d: u32, s: u32, budget: u64) -> Examined
 }
 
 // Takes the steps of s, at most `budget` of them, and returns what is left of the budget.
-fn fill_subset(ds: &[u32], table: &mut [u32], s: u32, budget: u64) -> u64
-    requires { (0 < s) × (s < 2 ^ 12) × (s < length table.old) × (s < length ds.now) }
+fn fill_subset(ds: &[u32; 4096], table: &mut [u32], s: u32, budget: u64) -> u64
+    requires { (0 < s) × (s < 2 ^ 12) × (s < length table.old) }
     ensures value { result ≡ budget - length (splits s) }
     ensures table_after { table.new ≡ foldl (step_of (held ds.now)) table.old (map (pair_up s) (take budget (splits s))) }
 {
     let found = examine(table, square::diameter(ds, s), s, budget);
-    table[subset::place(s)] = found.least;
+    table[s as usize] = found.least;
     found.left
 }
 
 // Puts 0 at the empty set and the single sinks, and the largest number at every other subset of n sinks.
-fn clear(table: &mut [u32], n: u32)
+fn clear(table: &mut [u32], n: usize)
     requires { (n ≤ 12) × (2 ^ n ≤ length table.old) }
     ensures { table.new ≡ front (blanks n) table.old }
 {
-    let size = subset::subsets(n);
-    let mut s: u32 = 0;
-    while s != size {
-        table[subset::place(s)] = subset::blank(s);
-        s += 1;
+    let blanks = &mut table[..subset::subsets(n) as usize];
+    for (s, best) in blanks.iter_mut().enumerate() {
+        *best = subset::blank(s as u32);
     }
 }
 
 // Takes all steps of s.
-fn fill_whole(ds: &[u32], table: &mut [u32], s: u32)
-    requires { (0 < s) × (s < length table.old) × (s < length ds.now) }
+fn fill_whole(ds: &[u32; 4096], table: &mut [u32], s: u32)
+    requires { (0 < s) × (s < 2 ^ 12) × (s < length table.old) }
     ensures { table.new ≡ foldl (step_of (held ds.now)) table.old (map (pair_up s) (splits s)) }
 {
     let least = examine_all(table, square::diameter(ds, s), s);
-    table[subset::place(s)] = least;
+    table[s as usize] = least;
 }
 
 // Takes all steps, the subsets of n sinks in rising order, and counts none.
-fn fill_all(ds: &[u32], table: &mut [u32], n: u32)
-    requires { (n ≤ 12) × (2 ^ n ≤ length table.old) × (2 ^ n ≤ length ds.now) }
+fn fill_all(ds: &[u32; 4096], table: &mut [u32], n: usize)
+    requires { (n ≤ 12) × (2 ^ n ≤ length table.old) }
     ensures { table.new ≡ foldl (step_of (held ds.now)) table.old (steps n) }
 {
     let size = subset::subsets(n);
-    let mut s: u32 = 1;
-    while s != size {
+    for s in 1..size {
         fill_whole(ds, table, s);
-        s += 1;
     }
 }
 
 // Takes at most `budget` steps, the subsets of n sinks in rising order, and returns how many.
-fn fill_some(ds: &[u32], table: &mut [u32], n: u32, budget: u64) -> u64
-    requires { (n ≤ 12) × (2 ^ n ≤ length table.old) × (2 ^ n ≤ length ds.now) }
+fn fill_some(ds: &[u32; 4096], table: &mut [u32], n: usize, budget: u64) -> u64
+    requires { (n ≤ 12) × (2 ^ n ≤ length table.old) }
     ensures value { result ≡ min budget (step_count n) }
     ensures table_after { table.new ≡ foldl (step_of (held ds.now)) table.old (take budget (steps n)) }
 {
     let size = subset::subsets(n);
     let mut left = budget;
-    let mut s: u32 = 1;
-    while s != size {
+    for s in 1..size {
         left = fill_subset(ds, table, s, left);
-        s += 1;
     }
     budget - left
 }
 
 // Takes at most `budget` steps on a blank table of the subsets of n sinks, where ds are their diameters, and returns how many.
-pub fn fill(ds: &[u32], table: &mut [u32], n: u32, budget: u64) -> u64
-    requires { (n ≤ 12) × (2 ^ n ≤ length table.old) × (2 ^ n ≤ length ds.now) × Short n ds.now }
+pub fn fill(ds: &[u32; 4096], table: &mut [u32], n: usize, budget: u64) -> u64
+    requires { (n ≤ 12) × (2 ^ n ≤ length table.old) × Short n ds.now }
     ensures value { result ≡ min budget (step_count n) }
     ensures table_after { table.new ≡ front (table_after (held ds.now) n budget) table.old }
 {
     clear(table, n);
-    let all = subset::all_steps(subset::place(n));
+    let all = subset::all_steps(n);
     if budget < all {
         return fill_some(ds, table, n, budget);
     }

@@ -4,10 +4,10 @@ use lib.Pow.{pow_pos}
 use Rattle.lists.specs.Grow.{front}
 use Rattle.lists.proofs.Grow.{front_more}
 use mathlib.Core.Path.{◌≡◌, refl, sym, ap, ap₂, subst, ◌∙◌}
-use mathlib.Core.List.{List, [], ◌∷◌, ◌++◌, map, foldl, foldl-append, map-append}
+use mathlib.Core.List.{List, [], ◌∷◌, ◌++◌, map, foldl, foldl-append, map-append, append-nil}
 use Prim.Native.Nat.{ℕ, zero, suc, ◌+◌, ◌-◌, ◌^◌, ◌≤◌, ◌<◌, min}
 use native.Mathlib.Omega.{arith}
-use lib.ListN.{length, take, drop, get_or, set, length-set, length-append, length-map, length-drop, get_or-append}
+use lib.ListN.{length, take, drop, get_or, set, length-set, length-append, length-map, get_or-append, length-take, drop_of_length-le}
 use lib.Seq.{take-nil, set-append_left}
 use Rattle.subsets.specs.Subsets.{rising, splits}
 use Rattle.subsets.specs.Table.{blank_of, blanks, cost_of, pair_up, step_of, steps, steps_of, table_after}
@@ -37,16 +37,18 @@ blanked_more s t h =
     front_more (map blank_of (rising s 0)) t s (blank_of s) n h
     ∙ ap (λ (l : List ℕ). l ++ drop (s + 1) t) (sym (map-append blank_of (rising s 0) (s ∷ [])) ∙ ap (map blank_of) (sym e))
 
-pub blanked_length : (s : ℕ) (t : List ℕ) → s ≤ length t → length (blanked s t) ≡ length t
-blanked_length s t h = length-append (map blank_of (rising s 0)) (drop s t) ∙ omega (arith, length-map (rising s 0) blank_of, rising_length s 0, length-drop s t)
-
 pub blanks-length : (n : ℕ) → length (blanks n) ≡ 2 ^ n
 unfolding blanks
 blanks-length n = length-map (rising (2 ^ n) 0) blank_of ∙ rising_length (2 ^ n) 0
 
-pub blanked_all : (n : ℕ) (t : List ℕ) → blanked (2 ^ n) t ≡ front (blanks n) t
+-- all of the part of the first k numbers that is lent
+pub blanked_part : (n k s : ℕ) (t : List ℕ) → k ≡ 2 ^ n → 2 ^ n ≤ length t → length (take k t) ≤ s → s ≤ length (take k t) → blanked s (take k t) ++ drop k t ≡ front (blanks n) t
 unfolding blanks
-blanked_all n t = ap (λ (k : ℕ). map blank_of (rising (2 ^ n) 0) ++ drop k t) (sym (blanks-length n))
+blanked_part n k s t ek h l m =
+    let e : s ≡ 2 ^ n = omega (arith, length-take k t) in
+    ap (λ (x : List ℕ). (map blank_of (rising s 0) ++ x) ++ drop k t) (drop_of_length-le (take k t) l)
+    ∙ ap (λ (x : List ℕ). x ++ drop k t) (append-nil (map blank_of (rising s 0)))
+    ∙ ap₂ (λ (x y : ℕ). map blank_of (rising x 0) ++ drop y t) e (ek ∙ sym (blanks-length n))
 
 -- ---- the subsets from s on
 

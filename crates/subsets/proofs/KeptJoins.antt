@@ -96,17 +96,16 @@ module _ (s : Sinks) (some : 0 < s.n) (few : s.n ≤ 512) (o : Order) (over : Ov
   pairs-total = sym (halves_are s (pairs_of s.n o 0) pairs-ordered) ∙ ap (halves s) root-order
 
 -- what the code writes for all n sinks, from a table of which it is lent the first `size` entries
-pub kept_written : (δ : ℕ → ℕ) (n size all : ℕ) (t js js2 : List ℕ) → 0 < n → n ≤ 12 → all ≡ 2 ^ n → size ≡ all → 2 * (n - 1) ≤ length js
-    → js2 ≡ sets js 0 (pairs_of n (kept_order δ (take (size - 0) t) (all - 1)) 0) → js2 ≡ front (pairs_of n (kept_order δ (take (2 ^ n) t) (2 ^ n - 1)) 0) js
-kept_written δ n size all t js js2 h k ea es room e =
+pub kept_written : (δ : ℕ → ℕ) (n all : ℕ) (t js js2 : List ℕ) → 0 < n → n ≤ 12 → all ≡ 2 ^ n → 2 * (n - 1) ≤ length js
+    → js2 ≡ sets js 0 (pairs_of n (kept_order δ (take all t) (all - 1)) 0) → js2 ≡ front (pairs_of n (kept_order δ (take (2 ^ n) t) (2 ^ n - 1)) 0) js
+kept_written δ n all t js js2 h k ea room e =
     let p : 2 ≤ 2 ^ n = pow_mono {i = 1} {j = n} h in
     let f : 2 ^ n ≤ 2 ^ 12 = pow_mono k in
-    let z : size - 0 ≡ 2 ^ n = omega arith in
     let w : all - 1 ≡ 2 ^ n - 1 = omega arith in
     let l : length (pairs_of n (kept_order δ (take (2 ^ n) t) (2 ^ n - 1)) 0) ≡ 2 * (n - 1) =
     pairs-length n (kept_order δ (take (2 ^ n) t) (2 ^ n - 1)) 0
     ∙ ap (λ (x : ℕ). 2 * x) (order_count δ (take (2 ^ n) t) (2 ^ n - 1) (omega arith) ∙ ap (λ (x : ℕ). x - 1) (ones-ones n)) in
     e
-    ∙ ap₂ (λ (x y : ℕ). sets js 0 (pairs_of n (kept_order δ (take x t) y) 0)) z w
+    ∙ ap₂ (λ (x y : ℕ). sets js 0 (pairs_of n (kept_order δ (take x t) y) 0)) ea w
     ∙ sets-eq (pairs_of n (kept_order δ (take (2 ^ n) t) (2 ^ n - 1)) 0) js 0 (omega arith)
     ∙ ap (λ (x : ℕ). pairs_of n (kept_order δ (take (2 ^ n) t) (2 ^ n - 1)) 0 ++ drop x js) (let y : 0 + length (pairs_of n (kept_order δ (take (2 ^ n) t) (2 ^ n - 1)) 0) ≡ length (pairs_of n (kept_order δ (take (2 ^ n) t) (2 ^ n - 1)) 0) = omega arith in y)

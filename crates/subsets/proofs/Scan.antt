@@ -110,6 +110,6 @@ module _ (d : ℕ) (t : List ℕ) (s : ℕ) (pos : 0 < s) (budget : ℕ) where
   )
 
 -- the steps of s into the parts of l, on the table
-pub subset_is : (δ : ℕ → ℕ) (t : List ℕ) (s d p v : ℕ) (l : List ℕ) → Parts s l → s < length t → d ≡ δ s → p ≡ s
-    → v ≡ foldl (better_at d t s) (get_or t s 0) l → set t p v ≡ foldl (step_of δ) t (map (pair_up s) l)
-subset_is δ t s d p v l h k ed ep ev = ap₂ (λ (x y : ℕ). set t x y) ep (ev ∙ ap (λ (x : ℕ). foldl (better_at x t s) (get_or t s 0) l) ed) ∙ sym (fold_set δ t s l k h)
+pub subset_is : (δ : ℕ → ℕ) (t : List ℕ) (s d v : ℕ) (l : List ℕ) → Parts s l → s < length t → d ≡ δ s
+    → v ≡ foldl (better_at d t s) (get_or t s 0) l → set t s v ≡ foldl (step_of δ) t (map (pair_up s) l)
+subset_is δ t s d v l h k ed ev = ap (set t s) (ev ∙ ap (λ (x : ℕ). foldl (better_at x t s) (get_or t s 0) l) ed) ∙ sym (fold_set δ t s l k h)

@@ -5,8 +5,7 @@ ghost use Rattle.zero_skew.specs.Box.{apart as apartOf};
 ghost use Rattle.plane.specs.Sinks.{sinks_at, Fitting, Placed};
 ghost use Rattle.subsets.specs.Square.{Square, RowOf, Widths, Changed, held, farthest_in};
 
-use crate::subset;
-use measures::{boxes, measure};
+use measures::boxes;
 use plane::bounds;
 
 // The distance of sinks i and j: the larger of the two widths of the box of their places.
@@ -31,10 +30,8 @@ fn row(xs: &[i32], ys: &[i32], delays: &[u32], i: usize) -> [u32; 12]
     ensures { RowOf (sinks_at xs.now ys.now delays.now) i (length xs.now) result }
 {
     let mut r: [u32; 12] = [0; 12];
-    let mut j = 0;
-    while j < xs.len() {
+    for j in 0..xs.len() {
         r[j] = apart(xs, ys, delays, i, j);
-        j += 1;
     }
     r
 }
@@ -45,75 +42,64 @@ pub fn square(xs: &[i32], ys: &[i32], delays: &[u32]) -> [[u32; 12]; 12]
     ensures { Square (sinks_at xs.now ys.now delays.now) result }
 {
     let mut q: [[u32; 12]; 12] = [[0; 12]; 12];
-    let mut i = 0;
-    while i < xs.len() {
+    for i in 0..xs.len() {
         q[i] = row(xs, ys, delays, i);
-        i += 1;
     }
     q
 }
 
 // The diameter of s, of those in ds.
-pub fn diameter(ds: &[u32], s: u32) -> u32
-    requires { s < length ds.now }
+pub fn diameter(ds: &[u32; 4096], s: u32) -> u32
+    requires { s < 2 ^ 12 }
     ensures { result ≡ held ds.now s }
 {
-    ds[subset::place(s)]
+    ds[s as usize]
 }
 
 // For every r below `step`, the entry at half + step + r is made the larger of that at half + r and w.
 // As in `widen`, no test stands around the store, and what is written is not read by a later turn: of such a loop the compiler takes many turns at once.
-fn stretch(ds: &mut [u32], half: usize, step: usize, w: u32)
-    requires { half + step + step ≤ length ds.old }
+fn stretch(ds: &mut [u32; 4096], half: usize, step: usize, w: u32)
+    requires { half + step + step ≤ 4096 }
     ensures { Changed (half + step) step (λ (r : ℕ). max (held ds.old (half + r)) w) ds.old ds.new }
 {
-    let mut r = 0;
-    while r < step {
-        ds[half + step + r] = measure::larger(ds[half + r], w);
-        r += 1;
+    for r in 0..step {
+        ds[half + step + r] = ds[half + r].max(w);
     }
 }
 
 // For every subset r of the sinks before j, how far sink j is from the farthest of them and of itself, at half + r. The sinks are taken in one by one, and each doubles the subsets that are done.
-fn farthest(q: [[u32; 12]; 12], ds: &mut [u32], j: usize, half: usize)
-    requires { (j < 12) × (half ≡ 2 ^ j) × (half + half ≤ length ds.old) }
+fn farthest(q: [[u32; 12]; 12], ds: &mut [u32; 4096], j: usize, half: usize)
+    requires { (j < 12) × (half ≡ 2 ^ j) }
     ensures { Changed half half (farthest_in q j) ds.old ds.new }
 {
-    let mut i = 0;
     let mut step = 1;
     ds[half] = q[j][j];
-    while i < j {
+    for i in 0..j {
         stretch(ds, half, step, q[i][j]);
         step = 2 * step;
-        i += 1;
     }
 }
 
 // For every r below `half`, the entry at half + r is made the larger of itself and that at r.
-fn widen(ds: &mut [u32], half: usize)
-    requires { half + half ≤ length ds.old }
+fn widen(ds: &mut [u32; 4096], half: usize)
+    requires { half + half ≤ 4096 }
     ensures { Changed half half (λ (r : ℕ). max (held ds.old (half + r)) (held ds.old r)) ds.old ds.new }
 {
-    let mut r = 0;
-    while r < half {
-        ds[half + r] = measure::larger(ds[half + r], ds[r]);
-        r += 1;
+    for r in 0..half {
+        ds[half + r] = ds[half + r].max(ds[r]);
     }
 }
 
 // The diameters of all subsets of n sinks, from the square. The subsets whose highest sink is j are half + r, for the subsets r of the sinks before it.
-pub fn diameters(q: [[u32; 12]; 12], ds: &mut [u32], n: u32)
-    requires { (n ≤ 12) × (2 ^ n ≤ length ds.old) }
+pub fn diameters(q: [[u32; 12]; 12], ds: &mut [u32; 4096], n: usize)
+    requires { n ≤ 12 }
     ensures { Widths q (2 ^ n) ds.new }
 {
-    let count = subset::place(n);
-    let mut j = 0;
     let mut half = 1;
     ds[0] = 0;
-    while j < count {
+    for j in 0..n {
         farthest(q, ds, j, half);
         widen(ds, half);
         half = 2 * half;
-        j += 1;
     }
 }

@@ -4,21 +4,12 @@ ghost use Rattle.subsets.specs.Subsets.{lowest, splits};
 ghost use Rattle.subsets.specs.Best.{step_count};
 ghost use Rattle.subsets.specs.Table.{blank_of};
 
-use measures::measure;
-
-// A subset's place in the table, or a number of sinks as a place.
-pub fn place(s: u32) -> usize
-    ensures { result ≡ s }
-{
-    s as usize
-}
-
 // The lowest sink of s.
-pub fn first(s: u32) -> usize
+pub fn first(s: u32) -> u32
     requires { 0 < s }
     ensures { result ≡ lowest s }
 {
-    u32::trailing_zeros(s) as usize
+    s.trailing_zeros()
 }
 
 // The subset s without its lowest sink.
@@ -26,19 +17,11 @@ pub fn beyond(s: u32) -> u32
     requires { 0 < s }
     ensures { result ≡ s - 2 ^ lowest s }
 {
-    s - (1u32 << u32::trailing_zeros(s))
+    s - (1u32 << first(s))
 }
 
-// A number of sinks, as narrow as subsets are.
-pub fn sinks(n: usize) -> u32
-    requires { n ≤ 12 }
-    ensures { result ≡ n }
-{
-    n as u32
-}
-
-// How many subsets n sinks have. A loop over them asks `s != size`, since of `s < size` the compiler makes a shift in every turn.
-pub fn subsets(n: u32) -> u32
+// How many subsets n sinks have.
+pub fn subsets(n: usize) -> u32
     requires { n ≤ 12 }
     ensures { (result ≡ 2 ^ n) × (0 < result) × (result ≤ 4096) }
 {
@@ -50,18 +33,14 @@ pub fn split_count(s: u32) -> u64
     requires { (0 < s) × (s < 2 ^ 12) }
     ensures { result ≡ length (splits s) }
 {
-    measure::wide(subsets(u32::count_ones(s) - 1)) - 1
+    (1u64 << (s.count_ones() - 1)) - 1
 }
 
 // What a subset holds before any of its splits is examined.
 pub fn blank(s: u32) -> u32
     ensures { result ≡ blank_of s }
 {
-    if u32::count_ones(s) < 2 {
-        0
-    } else {
-        4294967295
-    }
+    if s.count_ones() < 2 { 0 } else { u32::MAX }
 }
 
 const COUNTS: [u64; 13] = [

@@ -19,7 +19,7 @@ fill_low-requires c =
     -- the block and its lanes
     let opened : Next a.ds.now a.table.now s.new.sums a.h 0 = record {
       block = p.block;
-      lanes = lanes_start a.table.now a.rows.now (replicate 28 4294967295) s.new.sums a.h p.block.some s.auto.sums (λ k h. get_or-replicate 28 k 4294967295 0 h) p.dealt s.ensures;
+      lanes = lanes_start a.table.now a.rows.now (replicate 28 4294967295) s.new.sums a.h p.block.some s.array_long (λ k h. get_or-replicate 28 k 4294967295 0 h) p.dealt s.ensures;
     } in
     (opened, omega arith, more_high a.h c.beyond.result p.block.some c.beyond.ensures (omega arith), refl, refl)
 
@@ -31,7 +31,7 @@ fill_lows-requires c =
     -- the block and its lanes
     let opened : Next a.ds.now a.table.now s.new.sums a.h 0 = record {
       block = p.block;
-      lanes = lanes_start a.table.now a.rows.now (replicate 28 4294967295) s.new.sums a.h p.block.some s.auto.sums (λ k h. get_or-replicate 28 k 4294967295 0 h) p.dealt s.ensures;
+      lanes = lanes_start a.table.now a.rows.now (replicate 28 4294967295) s.new.sums a.h p.block.some s.array_long (λ k h. get_or-replicate 28 k 4294967295 0 h) p.dealt s.ensures;
     } in
     -- the steps of the high sinks alone are taken
     let high : c.if-beyond-ne0.table ≡ foldl (step_of (held a.ds.now)) a.table.now (map (pair_up (8 * a.h + 0)) (splits (8 * a.h + 0))) =

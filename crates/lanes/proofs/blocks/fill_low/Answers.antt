@@ -24,6 +24,7 @@ pub returns : goal.returns
 returns c =
     let a = c.args in
     let p = c.requires in
-    let e : set a.table.now c.place.result (c.diameter.result + c.least_low-least.result) ≡ foldl (step_of (held a.ds.now)) a.table.now (map (pair_up (8 * a.h + a.low)) (splits (8 * a.h + a.low))) =
-    entry_is a.ds.now a.table.now a.sums.now a.h a.low p.0 p.1 p.2 c.diameter.result c.least_lane.result c.least_low-least.result a.from a.end c.diameter.ensures p.3 p.4 c.least_lane.ensures c.least_low-least.ensures c.place.result c.place.ensures in
-    record { next = next_more a.ds.now a.table.now (set a.table.now c.place.result (c.diameter.result + c.least_low-least.result)) a.sums.now a.h a.low p.0 p.1 e; table_after = e }
+    let v = c.diameter.result + c.least_low-least.result in
+    let e : set a.table.now (8 * a.h + a.low) v ≡ foldl (step_of (held a.ds.now)) a.table.now (map (pair_up (8 * a.h + a.low)) (splits (8 * a.h + a.low))) =
+    entry_is a.ds.now a.table.now a.sums.now a.h a.low p.0 p.1 p.2 c.diameter.result c.least_lane.result c.least_low-least.result a.from a.end c.diameter.ensures p.3 p.4 c.least_lane.ensures c.least_low-least.ensures in
+    record { next = next_more a.ds.now a.table.now (set a.table.now (8 * a.h + a.low) v) a.sums.now a.h a.low p.0 p.1 e; table_after = e }

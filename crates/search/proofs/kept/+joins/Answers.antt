@@ -15,7 +15,7 @@ returns-then-s-lt2 t c =
     }
 
 pub kept-a-requires : goal.kept-a-requires
-kept-a-requires t c = let p = c.requires in (p.2, p.3, p.4, p.7)
+kept-a-requires t c = let p = c.requires in (p.2, p.3, p.4)
 
 pub overflow_sub-b : goal.overflow_sub-b
 overflow_sub-b t c =
@@ -27,7 +27,7 @@ joins-mid-requires t c =
     let a = c.args in
     let f = join_facts (held a.ds.now) a.table.now a.n a.s a.made c.requires.2 c.if-s-lt2.false c.kept-a.result c.kept-a.ensures in
     let q = c.requires in
-    (omega (arith, f.1, c.decreases), (q.0, q.1, f.0, omega (arith, f.1, q.3), omega (arith, f.1, q.4), omega (arith, f.4, q.5), omega (arith, f.4, q.6), omega (arith, f.1, q.7)))
+    (omega (arith, f.1, c.decreases), (q.0, q.1, f.0, omega (arith, f.1, q.3), omega (arith, f.1, q.4), omega (arith, f.4, q.5), omega (arith, f.4, q.6)))
 
 pub joins-end-requires : goal.joins-end-requires
 joins-end-requires t c =
@@ -44,7 +44,6 @@ joins-end-requires t c =
         omega (arith, f.0, q.4),
         omega (arith, f.2, f.3, f.4, q.5, j.ensures.value),
         omega (arith, f.2, f.3, f.4, q.6, j.ensures.value, j.auto.out),
-        omega (arith, f.0, q.7),
       ),
     )
 

@@ -8,25 +8,20 @@ use Rattle.subsets.specs.Square.{held}
 use Rattle.subsets.proofs.KeptJoins.{kept_written}
 use Rattle.search.proofs.kept.write_kept.Goals as goal
 
-pub slice_bounds-joins-end : goal.slice_bounds-joins-end
-slice_bounds-joins-end c = omega (arith, (c.subsets-all.ensures.0 ∙ ap (λ (x : ℕ). 2 ^ x) c.sinks.ensures))
-
 pub joins-requires : goal.joins-requires
 joins-requires c =
-    let a = (c.subsets-all.ensures.0 ∙ ap (λ (x : ℕ). 2 ^ x) c.sinks.ensures) in
     let g : 2 ≤ 2 ^ c.args.n = pow_mono {i = 1} {j = c.args.n} (omega arith) in
-    let o : ones (c.subsets-all.result - 1) ≡ c.args.n = ap (λ (x : ℕ). ones (x - 1)) a ∙ ones-ones c.args.n in (
+    let o : ones (c.subsets-all.result - 1) ≡ c.args.n = ap (λ (x : ℕ). ones (x - 1)) c.subsets-all.ensures.0 ∙ ones-ones c.args.n in (
       c.requires.0,
       c.requires.1,
-      omega (arith, a),
+      omega arith,
       omega (arith, c.subsets-all.ensures.2),
-      omega (arith, a, c.place-size.ensures, length-take (c.place-size.result - 0) c.args.table.now),
+      omega (arith, length-take c.subsets-all.result c.args.table.now),
       omega (arith, o),
       omega (arith, o),
-      omega (arith, a, c.requires.4),
     )
 
 pub returns : goal.returns
 returns c =
-    kept_written (held c.args.ds.now) c.args.n c.place-size.result c.subsets-all.result c.args.table.now c.args.js.now c.joins.new.out
-    c.requires.0 c.requires.1 (c.subsets-all.ensures.0 ∙ ap (λ (x : ℕ). 2 ^ x) c.sinks.ensures) c.place-size.ensures c.requires.3 c.joins.ensures.out_after
+    kept_written (held c.args.ds.now) c.args.n c.subsets-all.result c.args.table.now c.args.js.now c.joins.new.out
+    c.requires.0 c.requires.1 c.subsets-all.ensures.0 c.requires.3 c.joins.ensures.out_after

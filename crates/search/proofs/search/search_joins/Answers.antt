@@ -1,15 +1,13 @@
-use Prim.Native.Nat.{◌≤◌, ℕ}
+use Prim.Native.Nat.{ℕ}
 use native.Mathlib.Omega.{arith}
-use lib.Pow.{pow_mono}
 use Rattle.plane.proofs.Checks.{fitting}
-use mathlib.Core.Path.{◌≡◌, ap, ◌∙◌}
+use mathlib.Core.Path.{ap, ◌∙◌}
 use mathlib.Core.List.{List}
 use lib.ListN.{length}
 use Rattle.lists.specs.Grow.{front}
 use Rattle.plane.specs.Sinks.{sinks_at}
 use Rattle.subsets.specs.Square.{held}
 use Rattle.subsets.specs.Subsets.{diam}
-use Rattle.subsets.specs.Table.{table_after}
 use Rattle.subsets.proofs.Agree.{table_agree}
 use Rattle.search.proofs.Finding.{diameters_are, filled_part}
 use Rattle.subsets.proofs.Small.{diam_small}
@@ -18,23 +16,14 @@ use Rattle.search.proofs.search.search_joins.Goals as goal
 pub square-requires : goal.square-requires
 square-requires c = (fitting c.requires.ranged, c.requires.few)
 
-pub diameters-requires : goal.diameters-requires
-diameters-requires c =
-    let h : c.sinks-n.result ≤ 12 = omega (arith, c.sinks-n.ensures, c.requires.few) in
-    (h, pow_mono h)
-
 pub fill-steps-requires : goal.fill-steps-requires
 fill-steps-requires c =
     let a = c.args in
     let p = c.requires in
-    let n : c.sinks-n.result ≡ length a.xs.now = c.sinks-n.ensures in
-    let h : c.sinks-n.result ≤ 12 = omega (arith, n, p.few) in
-    let ds : List ℕ = c.diameters.new.ds in
-    let w = diameters_are a.xs.now a.ys.now a.delays.now a.budget p.few c.square.result ds c.square.ensures (rw (← n) c.diameters.ensures) in (
-      h,
-      rw n p.room_table,
-      rw c.diameters.auto.ds (pow_mono h),
-      λ m l. omega (arith, w m (rw (← n) l), diam_small a.xs.now a.ys.now a.delays.now p.ranged m),
+    let w = diameters_are a.xs.now a.ys.now a.delays.now a.budget p.few c.square.result c.diameters.new.ds c.square.ensures c.diameters.ensures in (
+      p.few,
+      p.room_table,
+      λ m l. omega (arith, w m l, diam_small a.xs.now a.ys.now a.delays.now p.ranged m),
     )
 
 pub write_joins-requires : goal.write_joins-requires
@@ -43,14 +32,11 @@ write_joins-requires c =
     let p = c.requires in
     let ds : List ℕ = c.diameters.new.ds in
     let f = c.fill-steps in
-    let h : length a.xs.now ≤ 12 = p.few in
-    let e : f.new.table ≡ front (table_after (held ds) (length a.xs.now) a.budget) a.table.now = rw (← c.sinks-n.ensures) f.ensures.table_after in
     record {
       prepared =
           record { ranged = p.ranged; some = p.some; few = p.few; room_table = rw f.auto.table p.room_table; room_js = p.room_js };
-      room_ds = rw c.diameters.auto.ds (pow_mono h);
-      diameters = diameters_are a.xs.now a.ys.now a.delays.now a.budget h c.square.result ds c.square.ensures (rw (← c.sinks-n.ensures) c.diameters.ensures);
-      after = filled_part a.xs.now a.ys.now a.delays.now a.budget (held ds) a.table.now f.new.table e;
+      diameters = diameters_are a.xs.now a.ys.now a.delays.now a.budget p.few c.square.result ds c.square.ensures c.diameters.ensures;
+      after = filled_part a.xs.now a.ys.now a.delays.now a.budget (held ds) a.table.now f.new.table f.ensures.table_after;
     }
 
 pub returns : goal.returns
@@ -59,10 +45,9 @@ returns c =
     let p = c.requires in
     let ds : List ℕ = c.diameters.new.ds in
     let f = c.fill-steps in
-    let w = diameters_are a.xs.now a.ys.now a.delays.now a.budget p.few c.square.result ds c.square.ensures (rw (← c.sinks-n.ensures) c.diameters.ensures) in
-    let e : f.new.table ≡ front (table_after (held ds) (length a.xs.now) a.budget) a.table.now = rw (← c.sinks-n.ensures) f.ensures.table_after in
+    let w = diameters_are a.xs.now a.ys.now a.delays.now a.budget p.few c.square.result ds c.square.ensures c.diameters.ensures in
     record {
-      counts = rw (← c.sinks-n.ensures) f.ensures.value;
-      writes_table = e ∙ ap (λ (l : List ℕ). front l a.table.now) (table_agree (held ds) (diam (sinks_at a.xs.now a.ys.now a.delays.now)) (length a.xs.now) a.budget w);
+      counts = f.ensures.value;
+      writes_table = f.ensures.table_after ∙ ap (λ (l : List ℕ). front l a.table.now) (table_agree (held ds) (diam (sinks_at a.xs.now a.ys.now a.delays.now)) (length a.xs.now) a.budget w);
       writes_js = c.write_joins.ensures;
     }

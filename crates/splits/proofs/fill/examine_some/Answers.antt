@@ -1,6 +1,6 @@
-use mathlib.Core.Path.{ap, ◌∙◌}
+use mathlib.Core.Path.{refl, ◌∙◌}
 use mathlib.Core.Logic.{inl, inr}
-use Prim.Native.Nat.{ℕ, ◌<◌, ◌-◌, ◌^◌, min}
+use Prim.Native.Nat.{◌<◌, ◌-◌, ◌^◌}
 use native.Mathlib.Omega.{arith}
 use lib.ListN.{get_or}
 use lib.Bits.{and_le_l}
@@ -9,19 +9,20 @@ use Rattle.subsets.proofs.Digits.{sub_le}
 use Rattle.subsets.proofs.Lowest.{beyond_lt}
 use Rattle.subsets.proofs.Scan.{scan_end, scan_start, scan_turn}
 use Rattle.splits.proofs.fill.examine_some.Goals as goal
-use Rattle.splits.proofs.fill.examine_some.Goals.{then-sum-wide, else-sum-wide}
 
 pub beyond-rest-requires : goal.beyond-rest-requires
 beyond-rest-requires c = c.requires.0
 
 pub loop-other-init : goal.loop-other-init
-loop-other-init c =
-    scan_start c.args.d c.args.table.now c.args.s c.requires.0 c.args.budget c.beyond-rest.result
-    (get_or c.args.table.now c.place.result 0) c.beyond-rest.ensures (ap (λ (x : ℕ). get_or c.args.table.now x 0) c.place.ensures)
+loop-other-init c = (
+  omega (arith, c.type_inv.table c.args.s),
+  scan_start c.args.d c.args.table.now c.args.s c.requires.0 c.args.budget c.beyond-rest.result
+    (get_or c.args.table.now c.args.s 0) c.beyond-rest.ensures refl,
+)
 
 pub cost-sum-requires : goal.cost-sum-requires
 cost-sum-requires c =
-    let h : c.loop-other.other < c.args.s = (omega (arith, sub_le c.loop-other.other (c.args.s - 2 ^ lowest c.args.s) c.loop-other.invariant.0, beyond_lt c.args.s c.requires.0)) in
+    let h : c.loop-other.other < c.args.s = (omega (arith, sub_le c.loop-other.other (c.args.s - 2 ^ lowest c.args.s) c.loop-other.invariant.1.0, beyond_lt c.args.s c.requires.0)) in
     let p = c.requires in
     (omega arith, omega arith, p.2)
 
@@ -34,16 +35,18 @@ loop-other-smaller c =
 pub returns-after-loop-other : goal.returns-after-loop-other
 returns-after-loop-other c =
     let l = c.loop-other in
-    scan_end c.args.d c.args.table.now c.args.s c.requires.0 c.args.budget l.other l.left l.best l.invariant (inl (omega arith))
+    scan_end c.args.d c.args.table.now c.args.s c.requires.0 c.args.budget l.other l.left l.best l.invariant.1 (inl (omega arith))
 
 pub returns-then-left-eq0 : goal.returns-then-left-eq0
 returns-then-left-eq0 c =
     let l = c.loop-other in
-    scan_end c.args.d c.args.table.now c.args.s c.requires.0 c.args.budget l.other l.left l.best l.invariant (inr c.if-left-eq0.true)
+    scan_end c.args.d c.args.table.now c.args.s c.requires.0 c.args.budget l.other l.left l.best l.invariant.1 (inr c.if-left-eq0.true)
 
 pub loop-other-preserved : goal.loop-other-preserved
 loop-other-preserved c =
     let l = c.loop-other in
-    let b = c.beyond-rest in
-    scan_turn c.args.d c.args.table.now c.args.s c.requires.0 c.args.budget b.result l.other l.left l.best c.if-sum-wide.best
-    b.ensures l.invariant (omega arith) (omega arith) ((elim c.if-sum-wide.branch [ then-sum-wide w ↦ omega arith | else-sum-wide w ↦ omega arith ]) ∙ ap (λ (x : ℕ). min l.best x) c.cost-sum.ensures)
+    let b = c.beyond-rest in (
+      omega arith,
+      scan_turn c.args.d c.args.table.now c.args.s c.requires.0 c.args.budget b.result l.other l.left l.best c.min-best.result
+    b.ensures l.invariant.1 (omega arith) (omega arith) (c.min-best.ensures ∙ omega (arith, c.cost-sum.ensures, c.from.ensures)),
+    )

@@ -1,9 +1,10 @@
+use Prim.Native.Nat.{◌<◌, ◌^◌}
 use Rattle.subsets.proofs.Scan.{Scan}
 use Rattle.splits.proofs.fill.examine_some.Given as goal
 
--- The loop's invariant is `Scan`.
+-- The loop's invariant is `Scan`; that the least so far is a u32 is for the cast back.
 abbrev pub invariant-loop-other : goal.invariant-loop-other
-invariant-loop-other l = Scan l.d l.table l.s l.budget l.other l.left l.best
+invariant-loop-other l = (l.best < 2 ^ 32) × Scan l.d l.table l.s l.budget l.other l.left l.best
 
 abbrev pub decreases-loop-other : goal.decreases-loop-other
 decreases-loop-other l = l.other

@@ -1,4 +1,4 @@
-use mathlib.Core.Path.{refl, ap, ◌∙◌}
+use mathlib.Core.Path.{ap, ◌∙◌}
 use native.Mathlib.Omega.{arith}
 use Rattle.subsets.specs.Square.{held}
 use Rattle.subsets.proofs.Filling.{fill_start, fill_end, fill_turn}
@@ -6,38 +6,21 @@ use Prim.Native.Nat.{min}
 use Rattle.subsets.proofs.Counting.{steps_count}
 use Rattle.splits.proofs.fill.fill_some.Goals as goal
 
-pub subsets-size-requires : goal.subsets-size-requires
-subsets-size-requires c = c.requires.0
-
 pub loop-s-init : goal.loop-s-init
-loop-s-init c = (omega arith, omega arith, omega arith, refl, fill_start (held c.args.ds.now) c.args.n c.args.budget c.args.table.now)
-
-pub fill_subset-left-requires : goal.fill_subset-left-requires
-fill_subset-left-requires c =
-    let l = c.loop-s in
-    (l.invariant.0, omega arith, omega (arith, l.invariant.3, c.requires.1), omega (arith, c.requires.2))
-
-pub overflow_sub-result : goal.overflow_sub-result
-overflow_sub-result c = c.loop-s.invariant.2
-
-pub shape_of-table : goal.shape_of-table
-shape_of-table c = c.loop-s.invariant.3
+loop-s-init c = (omega arith, fill_start (held c.args.ds.now) c.args.n c.args.budget c.args.table.now)
 
 pub loop-s-preserved : goal.loop-s-preserved
 loop-s-preserved c =
     let l = c.loop-s in
     let f = c.fill_subset-left in
     let a = c.args in (
-      omega arith,
-      omega arith,
-      omega (arith, f.ensures.value, l.invariant.2),
-      f.auto.table ∙ l.invariant.3,
-      fill_turn (held a.ds.now) a.n a.budget a.table.now l.s l.left f.result l.table f.new.table (omega arith) l.invariant.4 f.ensures.value f.ensures.table_after,
+      omega (arith, f.ensures.value, l.invariant.0),
+      fill_turn (held a.ds.now) a.n a.budget a.table.now l.s l.left f.result l.table f.new.table (omega arith) l.invariant.1 f.ensures.value f.ensures.table_after,
     )
 
 pub returns : goal.returns
 returns c =
     let l = c.loop-s in
     let a = c.args in
-    let e = fill_end (held a.ds.now) a.n a.budget a.table.now l.s l.left l.table (omega arith) l.invariant.4 in
+    let e = fill_end (held a.ds.now) a.n a.budget a.table.now l.s l.left l.table (omega arith) l.invariant.1 in
     record { value = e.0 ∙ ap (min a.budget) (steps_count a.n); table_after = e.1 }

@@ -9,6 +9,6 @@ returns c =
     let f = c.examine-found in
     record {
       value = f.ensures.0;
-      table_after = subset_is (held c.args.ds.now) c.args.table.now c.args.s c.diameter.result c.place.result f.result.least (take c.args.budget (splits c.args.s))
-          (parts_take c.args.s c.args.budget (splits c.args.s) (parts_splits c.args.s c.requires.0)) c.requires.2 c.diameter.ensures c.place.ensures f.ensures.1;
+      table_after = subset_is (held c.args.ds.now) c.args.table.now c.args.s c.diameter.result f.result.least (take c.args.budget (splits c.args.s))
+          (parts_take c.args.s c.args.budget (splits c.args.s) (parts_splits c.args.s c.requires.0)) c.requires.2 c.diameter.ensures f.ensures.1;
     }

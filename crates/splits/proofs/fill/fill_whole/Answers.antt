@@ -5,5 +5,5 @@ use Rattle.splits.proofs.fill.fill_whole.Goals as goal
 
 pub returns : goal.returns
 returns c =
-    subset_is (held c.args.ds.now) c.args.table.now c.args.s c.diameter.result c.place.result c.examine_all-least.result (splits c.args.s)
-    (parts_splits c.args.s c.requires.0) c.requires.1 c.diameter.ensures c.place.ensures c.examine_all-least.ensures
+    subset_is (held c.args.ds.now) c.args.table.now c.args.s c.diameter.result c.examine_all-least.result (splits c.args.s)
+    (parts_splits c.args.s c.requires.0) c.requires.2 c.diameter.ensures c.examine_all-least.ensures

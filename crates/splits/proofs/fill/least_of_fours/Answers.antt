@@ -34,8 +34,8 @@ pub loop-other-preserved : goal.loop-other-preserved
 loop-other-preserved c =
     let a = c.args in
     let l = c.loop-other in
-    fours_turn a.table.now a.s a.second a.third a.last c.requires.0 c.requires.1 l.other l.least c.smaller-least.result (bit_and (l.other - 1) a.last) l.invariant (omega arith) refl
-    (c.smaller-least.ensures ∙ ap (min l.least) (c.smaller.ensures ∙ ap₂ min c.three-with.ensures.1 c.parts.ensures.1))
+    fours_turn a.table.now a.s a.second a.third a.last c.requires.0 c.requires.1 l.other l.least c.min-least.result (bit_and (l.other - 1) a.last) l.invariant (omega arith) refl
+    (c.min-least.ensures ∙ ap (min l.least) (c.min.ensures ∙ ap₂ min c.three-with.ensures.1 c.parts.ensures.1))
 
 pub returns : goal.returns
 returns c =

@@ -1,5 +1,4 @@
 use mathlib.Core.Path.{◌≡◌}
-use Prim.Native.Nat.{◌≤◌, ◌-◌}
 use lib.ListN.{length}
 use Rattle.plane.specs.Sinks.{sinks_at}
 use Rattle.subsets.specs.Square.{RowOf}
@@ -7,7 +6,5 @@ use Rattle.subsets.proofs.square.row.Given as goal
 
 -- The invariant: the first j entries are in the row.
 abbrev pub invariant-loop-j : goal.invariant-loop-j
-invariant-loop-j l = (l.j ≤ length l.xs) × (length l.r ≡ 12) × RowOf (sinks_at l.xs l.ys l.delays) l.i l.j l.r
+invariant-loop-j l = (length l.r ≡ 12) × RowOf (sinks_at l.xs l.ys l.delays) l.i l.j l.r
 
-abbrev pub decreases-loop-j : goal.decreases-loop-j
-decreases-loop-j l = length l.xs - l.j

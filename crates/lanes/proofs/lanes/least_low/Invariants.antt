@@ -1,7 +1,7 @@
 use mathlib.Core.Path.{◌≡◌}
 use Rattle.lanes.specs.Blocks.{least_with, parts_to, split_off_lane}
 use Rattle.subsets.proofs.Digits.{Sub}
-use Rattle.lanes.proofs.blocks.least_low.Given as goal
+use Rattle.lanes.proofs.lanes.least_low.Given as goal
 
 -- The loop's invariant: with the parts up to `part`, the least so far comes to the least of all.
 abbrev pub invariant-loop-part : goal.invariant-loop-part
