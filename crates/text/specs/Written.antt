@@ -10,5 +10,6 @@ pub record Room (page : Page) (text : List ℕ) : Type 0 where
 -- the page's buffer has the text behind what stood there, and the rest of it is as it was
 pub record Writes (text : List ℕ) (old new : Page) : Type 0 where
   pub same : new.out.ghost_name ≡ old.out.ghost_name
+  pub size : length new.out.now ≡ length old.out.now
   pub ends : new.at ≡ old.at + length text
   pub holds : new.out.now ≡ sets old.out.now old.at text

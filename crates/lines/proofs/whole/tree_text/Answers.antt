@@ -1,27 +1,32 @@
+use borrow.Author.Rules.{rules}
 use native.Mathlib.Omega.{arith}
-use Rattle.orders.proofs.Parents.{parent_above}
-use Rattle.lines.proofs.Printing.{printed}
+use Rattle.lines.specs.Lines.{tree_text}
+use Rattle.text.proofs.Written.{then}
+use Rattle.lines.proofs.Size.{first_length, second_length}
 use Rattle.lines.proofs.whole.tree_text.Goals as goal
 
-pub lines_of-requires : goal.lines_of-requires
-lines_of-requires c =
+pub first_line-requires : goal.first_line-requires
+first_line-requires c =
+    let t = c.args.t.now in
+    record { fits = omega (arith, first_length t.n t.total c.args.proven c.requires.0.ordered.few (search rules), c.requires.1) }
+
+pub tree_line-requires : goal.tree_line-requires
+tree_line-requires c =
+    let t = c.args.t.now in
     let o = c.requires.0.ordered in
-    let p = c.parents-ps in (
-      o,
-      p.ensures,
-      record {
-        up = record {
-          some = o.some;
-          few = o.few;
-          tall_p = omega (arith, o.few, p.type_inv);
-          low_p = λ k h. rw (p.ensures k h) (parent_above c.args.n c.args.js.now o k h).1;
-        };
-        tall_u = c.requires.0.tall_u;
-        tall_v = c.requires.0.tall_v;
-        tall_w = c.requires.0.tall_w;
-      },
-      c.requires.1,
-    )
+    (o, record { fits = omega (arith, first_length t.n t.total c.args.proven o.few (search rules), second_length t.n t.js.now o, c.requires.1) })
+
+pub node_lines-requires : goal.node_lines-requires
+node_lines-requires c =
+    let t = c.args.t.now in
+    let o = c.requires.0.ordered in
+    (c.requires.0, c.parents.ensures, omega (arith, first_length t.n t.total c.args.proven o.few (search rules), second_length t.n t.js.now o, c.requires.1, o.few))
 
 pub returns : goal.returns
-returns c = let w = c.lines_of.ensures in printed w.0 (omega (arith, w.1, c.requires.1))
+unfolding tree_text
+returns c =
+    let t = c.args.t.now in
+    let o = c.requires.0.ordered in (
+      then c.first_line.ensures (then c.tree_line.ensures c.node_lines.ensures.0),
+      omega (arith, first_length t.n t.total c.args.proven o.few (search rules), second_length t.n t.js.now o, c.node_lines.ensures.1, o.few),
+    )
