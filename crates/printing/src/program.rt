@@ -22,10 +22,9 @@ fn write_joins(xs: &[i32], ys: &[i32], delays: &[u32], js: &mut [u16; 1022])
     requires { Sinked xs.now ys.now delays.now }
     ensures { js.new ≡ front (joins_of (sinks_at xs.now ys.now delays.now)) js.old }
 {
-    let n = xs.len();
-    if n <= 12 {
+    if xs.len() <= 12 {
         let mut table = [0u32; 4096];
-        exact::search_joins(xs, ys, delays, subset::all_steps(n), &mut table, js);
+        exact::search_joins(xs, ys, delays, subset::all_steps(xs.len()), &mut table, js);
         return;
     }
     order::order_sound(xs, ys, delays, js);
