@@ -61,6 +61,8 @@ unfolding second_line brackets
 second_length n js o =
     let f : ℕ → ℕ = λ k. length (brackets (node n js k)) in
     let r = root_has n js o f (λ i. 3) (λ i h. ap (λ t. length (brackets t)) (node-join n js o i h) ∙ around_length (brackets (node n js (left js i))) (brackets (node n js (right js i)))) in
-    let s = few_sum f 3 n (λ k h. rw (sink_text n js o k h) (decimal-length 3 k (omega arith) (omega (arith, o.few)) (omega (arith, o.few)))) in
+    let s = few_sum f 3 n (λ k h. rw (sink_text o h) (decimal-length 3 k (omega arith) (omega (arith, o.few)) (omega (arith, o.few)))) in
     let t = few_sum (λ i. 3) 3 (n - 1) (λ k h. omega arith) in
     simp length-append (omega (arith, r, s, t, o.few, o.some))
+
+pub ruleset first_lines = (first_length, second_length)

@@ -11,7 +11,9 @@ use text::page::Page;
 
 // A join is its two children, each written the same way; they have smaller numbers. A sink is its number.
 pub fn subtree(page: &mut Page, js: &[u16], n: usize, k: usize)
-    requires { Ordered n js.now × (k < 2 * n - 1) × Room page.old (brackets (node n js.now k)) }
+    requires ordered { Ordered n js.now }
+    requires node { k < 2 * n - 1 }
+    requires room { Room page.old (brackets (node n js.now k)) }
     ensures { Writes (brackets (node n js.now k)) page.old page.new }
 {
     if k < n {
@@ -28,8 +30,10 @@ pub fn subtree(page: &mut Page, js: &[u16], n: usize, k: usize)
 }
 
 // Line 2: the root is the last node.
+#[tactic(auto, unfolding(crate::specs::Lines::second_line))]
 pub fn tree_line(page: &mut Page, js: &[u16], n: usize)
-    requires { Ordered n js.now × Room page.old (second_line n js.now) }
+    requires ordered { Ordered n js.now }
+    requires room { Room page.old (second_line n js.now) }
     ensures { Writes (second_line n js.now) page.old page.new }
 {
     subtree(page, js, n, 2 * n - 2);

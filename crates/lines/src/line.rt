@@ -33,8 +33,12 @@ pub fn first_line(page: &mut Page, n: usize, total: u32, proven: bool)
 // The last field of a node's line: its parent, and - for the root.
 #[tactic(auto, using(crate::proofs::Same::parent_figures))]
 fn parent_field(page: &mut Page, t: &Embedded, ps: &[usize; 1023], k: usize)
-    requires { Grown t.now × Parents t.now.n t.now.js.now ps.now × (k < 2 * t.now.n - 1) × (page.old.at + 6 ≤ length page.old.out.now) }
-    ensures { Writes (from_parent t.now k) page.old page.new × (page.new.at ≤ page.old.at + 6) }
+    requires tree { Grown t.now }
+    requires parents { Parents t.now.n t.now.js.now ps.now }
+    requires node { k < 2 * t.now.n - 1 }
+    requires room { page.old.at + 6 ≤ length page.old.out.now }
+    ensures writes { Writes (from_parent t.now k) page.old page.new }
+    ensures within { page.new.at ≤ page.old.at + 6 }
 {
     if k == 2 * t.n - 2 {
         return page.word(b" -\n");
@@ -46,8 +50,12 @@ fn parent_field(page: &mut Page, t: &Embedded, ps: &[usize; 1023], k: usize)
 // The line of node k, of at most 45 bytes.
 #[tactic(auto, using(crate::proofs::Size::figures))]
 fn node_line(page: &mut Page, t: &Embedded, ps: &[usize; 1023], k: usize)
-    requires { Grown t.now × Parents t.now.n t.now.js.now ps.now × (k < 2 * t.now.n - 1) × (page.old.at + 45 ≤ length page.old.out.now) }
-    ensures { Writes (line_of t.now k) page.old page.new × (page.new.at ≤ page.old.at + 45) }
+    requires tree { Grown t.now }
+    requires parents { Parents t.now.n t.now.js.now ps.now }
+    requires node { k < 2 * t.now.n - 1 }
+    requires room { page.old.at + 45 ≤ length page.old.out.now }
+    ensures writes { Writes (line_of t.now k) page.old page.new }
+    ensures within { page.new.at ≤ page.old.at + 45 }
 {
     page.number(k);
     page.next(t.us[k]);
@@ -58,8 +66,11 @@ fn node_line(page: &mut Page, t: &Embedded, ps: &[usize; 1023], k: usize)
 
 // The lines of all nodes.
 pub fn node_lines(page: &mut Page, t: &Embedded, ps: &[usize; 1023])
-    requires { Grown t.now × Parents t.now.n t.now.js.now ps.now × (page.old.at + 45 * (2 * t.now.n - 1) ≤ length page.old.out.now) }
-    ensures { Writes (lines_to t.now (2 * t.now.n - 1)) page.old page.new × (page.new.at ≤ page.old.at + 45 * (2 * t.now.n - 1)) }
+    requires tree { Grown t.now }
+    requires parents { Parents t.now.n t.now.js.now ps.now }
+    requires room { page.old.at + 45 * (2 * t.now.n - 1) ≤ length page.old.out.now }
+    ensures writes { Writes (lines_to t.now (2 * t.now.n - 1)) page.old page.new }
+    ensures within { page.new.at ≤ page.old.at + 45 * (2 * t.now.n - 1) }
 {
     for k in 0..2 * t.n - 1 {
         node_line(page, t, ps, k);
@@ -70,7 +81,8 @@ pub fn node_lines(page: &mut Page, t: &Embedded, ps: &[usize; 1023])
 #[tactic(auto, using(crate::proofs::Size::figures))]
 fn place_end(page: &mut Page, p: Place)
     requires { page.old.at + 22 ≤ length page.old.out.now }
-    ensures { Writes (place_end p) page.old page.new × (page.new.at ≤ page.old.at + 22) }
+    ensures writes { Writes (place_end p) page.old page.new }
+    ensures within { page.new.at ≤ page.old.at + 22 }
 {
     let Place::At(i) = p else {
         return page.byte(b'\n');
@@ -82,7 +94,8 @@ fn place_end(page: &mut Page, p: Place)
 #[tactic(auto, using(crate::proofs::Size::figures))]
 pub fn refusal_line(page: &mut Page, r: Refusal)
     requires { page.old.at + 40 ≤ length page.old.out.now }
-    ensures { Writes (refusal_line r) page.old page.new × (page.new.at ≤ page.old.at + 40) }
+    ensures writes { Writes (refusal_line r) page.old page.new }
+    ensures within { page.new.at ≤ page.old.at + 40 }
 {
     page.word(b"refused ");
     page.number(refusal::number_of(r));

@@ -8,10 +8,13 @@ use crate::{brackets, line};
 use orders::nodes;
 use text::page::Page;
 
+#[tactic(auto, using(crate::proofs::Size::first_lines))]
 // The lines of a tree, on a page with room for every answer.
 pub fn tree_text(page: &mut Page, t: &Embedded, proven: bool)
-    requires { Grown t.now × (page.old.at + 49152 ≤ length page.old.out.now) }
-    ensures { Writes (text_with t.now proven) page.old page.new × (page.new.at ≤ page.old.at + 49152) }
+    requires tree { Grown t.now }
+    requires room { page.old.at + 49152 ≤ length page.old.out.now }
+    ensures writes { Writes (text_with t.now proven) page.old page.new }
+    ensures within { page.new.at ≤ page.old.at + 49152 }
 {
     line::first_line(page, t.n, t.total, proven);
     brackets::tree_line(page, t.js, t.n);

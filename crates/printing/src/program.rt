@@ -32,8 +32,10 @@ fn write_joins(xs: &[i32], ys: &[i32], delays: &[u32], js: &mut [u16; 1022])
 
 // The lines of the program's tree.
 fn sinks_lines(page: &mut Page, xs: &[i32], ys: &[i32], delays: &[u32])
-    requires { Sinked xs.now ys.now delays.now × (page.old.at + 49152 ≤ length page.old.out.now) }
-    ensures { Writes (lines_of (sinks_at xs.now ys.now delays.now)) page.old page.new × (page.new.at ≤ page.old.at + 49152) }
+    requires sinks { Sinked xs.now ys.now delays.now }
+    requires room { page.old.at + 49152 ≤ length page.old.out.now }
+    ensures writes { Writes (lines_of (sinks_at xs.now ys.now delays.now)) page.old page.new }
+    ensures within { page.new.at ≤ page.old.at + 49152 }
 {
     let n = xs.len();
     let mut js = [0u16; 1022];
@@ -61,7 +63,7 @@ pub fn tree_lines(input: &[u8], out: &mut [u8; 49152]) -> usize
     let mut page = Page::new(out);
     if 32768 < input.len() {
         line::too_long_line(&mut page);
-        return page.at;
+        return page.len();
     }
     let mut xs = [0i32; 512];
     let mut ys = [0i32; 512];
@@ -70,5 +72,5 @@ pub fn tree_lines(input: &[u8], out: &mut [u8; 49152]) -> usize
         Reading::NotRead(r) => line::refusal_line(&mut page, r),
         Reading::Sinks(n) => sinks_lines(&mut page, &xs[..n], &ys[..n], &none[..n]),
     }
-    page.at
+    page.len()
 }

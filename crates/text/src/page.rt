@@ -8,9 +8,8 @@ use crate::figures::Figures;
 
 #[derive(Drop)]
 pub struct Page<'a> {
-    pub out: &'a mut [u8],
-    // how many bytes are written
-    pub at: usize,
+    out: &'a mut [u8],
+    at: usize,
 }
 
 impl<'a> Page<'a> {
@@ -20,6 +19,13 @@ impl<'a> Page<'a> {
         ensures empty { result.at ≡ 0 }
     {
         Page { out, at: 0 }
+    }
+
+    // How many bytes are written.
+    pub fn len(&self) -> usize
+        ensures { result ≡ self.now.at }
+    {
+        self.at
     }
 
     pub fn byte(&mut self, b: u8)

@@ -11,4 +11,5 @@ loop-k-init c = (nothing, omega arith)
 pub loop-k-preserved : goal.loop-k-preserved
 loop-k-preserved c =
     let w = c.node_line.ensures in
-    (line_next c.args.t.now c.loop-k.k c.loop-k.invariant.0 w.0, omega (arith, w.1, c.loop-k.invariant.1))
+    let l = c.loop-k in
+    (line_next c.args.t.now l.k l.invariant.0 w.writes, omega (arith, w.within, l.invariant.1))

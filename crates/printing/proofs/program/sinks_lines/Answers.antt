@@ -10,7 +10,7 @@ use Rattle.printing.proofs.program.sinks_lines.Goals as goal
 pub embed_sound-total-requires : goal.embed_sound-total-requires
 embed_sound-total-requires c =
     let a = c.args in
-    let p = c.requires.0 in
+    let p = c.requires.sinks in
     record {
       sound = rw (joins_taken a.xs.now a.ys.now a.delays.now p _ c.write_joins.new.js c.write_joins.ensures) (sound p.ranged (joins_ordered a.xs.now a.ys.now a.delays.now p));
       room_u = omega arith;
@@ -18,25 +18,24 @@ embed_sound-total-requires c =
       room_w = omega arith;
     }
 
-pub tree_text-requires : goal.tree_text-requires
-tree_text-requires c =
+pub tree_text-requires-clause-tree : goal.tree_text-requires-clause-tree
+tree_text-requires-clause-tree c =
     let a = c.args in
-    let p = c.requires.0 in
-    let e = rw (joins_taken a.xs.now a.ys.now a.delays.now p _ c.write_joins.new.js c.write_joins.ensures) at c.embed_sound-total.ensures in (
-      record {
-        ordered = rw (joins_taken a.xs.now a.ys.now a.delays.now p _ c.write_joins.new.js c.write_joins.ensures) (joins_ordered a.xs.now a.ys.now a.delays.now p);
-        tall_u = tall_u a.xs.now a.ys.now a.delays.now _ e;
-        tall_v = tall_v a.xs.now a.ys.now a.delays.now _ e;
-        tall_w = tall_w a.xs.now a.ys.now a.delays.now _ e;
-      },
-      c.requires.1,
-    )
-
-pub returns : goal.returns
-unfolding lines_of
-returns c =
-    let a = c.args in
-    let p = c.requires.0 in
+    let p = c.requires.sinks in
     let j = joins_taken a.xs.now a.ys.now a.delays.now p _ c.write_joins.new.js c.write_joins.ensures in
     let e = rw j at c.embed_sound-total.ensures in
-    rw (j, embedded_text a.xs.now a.ys.now a.delays.now (joins_of (sinks_at a.xs.now a.ys.now a.delays.now)) e) at c.tree_text.ensures
+    record {
+      ordered = rw j (joins_ordered a.xs.now a.ys.now a.delays.now p);
+      tall_u = tall_u a.xs.now a.ys.now a.delays.now _ e;
+      tall_v = tall_v a.xs.now a.ys.now a.delays.now _ e;
+      tall_w = tall_w a.xs.now a.ys.now a.delays.now _ e;
+    }
+
+pub returns-clause-writes : goal.returns-clause-writes
+unfolding lines_of
+returns-clause-writes c =
+    let a = c.args in
+    let p = c.requires.sinks in
+    let j = joins_taken a.xs.now a.ys.now a.delays.now p _ c.write_joins.new.js c.write_joins.ensures in
+    let e = rw j at c.embed_sound-total.ensures in
+    rw (j, embedded_text a.xs.now a.ys.now a.delays.now (joins_of (sinks_at a.xs.now a.ys.now a.delays.now)) e) at c.tree_text.ensures.writes

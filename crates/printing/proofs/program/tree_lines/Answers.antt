@@ -18,13 +18,13 @@ unfolding too_long
 returns-then-input-gt32768 c =
     let w = c.too_long_line.ensures in
     let z : length c.new-page.result.out.now ≡ 49152 = search rules in
-    rw (text_long c.args.input.now c.if-input-gt32768.true, ← c.new-page.ensures.holds) (printed w c.new-page.ensures.empty (omega (arith, w.ends)))
+    rw (c.len.ensures, text_long c.args.input.now c.if-input-gt32768.true, ← c.new-page.ensures.holds) (printed w c.new-page.ensures.empty (omega (arith, w.ends)))
 
 pub sinks_lines-requires : goal.sinks_lines-requires
 sinks_lines-requires c =
     let t = taken_is c.args.input.now c.read_sinks.result c.read_sinks.ensures refl refl c.in-Sinks.is in
     let z : length c.new-page.result.out.now ≡ 49152 = search rules in
-    (rw (t.takes_x, t.takes_y, t.takes_none) (sinked c.args.input.now t.fine), omega (arith))
+    record { sinks = rw (t.takes_x, t.takes_y, t.takes_none) (sinked c.args.input.now t.fine); room = omega (arith, z) }
 
 pub returns : goal.returns
 returns c =
@@ -33,11 +33,11 @@ returns c =
     elim c.match-read_sinks.branch [
       | in-NotRead w ↦
           let x = w.refusal_line.ensures in
-          rw (text_refused f c.if-input-gt32768.false (refused_is f c.read_sinks.result c.read_sinks.ensures refl refl w.in-NotRead.is), ← c.new-page.ensures.holds, w.page-is)
-          (printed x.0 c.new-page.ensures.empty (omega (arith, x.1)))
+          rw (c.len-2.ensures, text_refused f c.if-input-gt32768.false (refused_is f c.read_sinks.result c.read_sinks.ensures refl refl w.in-NotRead.is), ← c.new-page.ensures.holds, w.page-is)
+          (printed x.writes c.new-page.ensures.empty (omega (arith, x.within)))
       | in-Sinks w ↦
           let t = taken_is f c.read_sinks.result c.read_sinks.ensures refl refl w.in-Sinks.is in
           let x = w.sinks_lines.ensures in
-          rw (text_lines f c.if-input-gt32768.false t.fine, ← c.new-page.ensures.holds, w.page-is)
-          (printed (rw (t.takes_x, t.takes_y, t.takes_none) at x.0) c.new-page.ensures.empty (omega (arith, x.1)))
+          rw (c.len-2.ensures, text_lines f c.if-input-gt32768.false t.fine, ← c.new-page.ensures.holds, w.page-is)
+          (printed (rw (t.takes_x, t.takes_y, t.takes_none) at x.writes) c.new-page.ensures.empty (omega (arith, x.within)))
     ]
