@@ -2,5 +2,5 @@
 pub mod Printing
 pub mod Fields
 pub mod Children
-pub mod Same
 pub mod Size
+pub mod Same

@@ -2,15 +2,19 @@
 use mathlib.Core.Path.{◌≡◌, refl, sym, ◌∙◌}
 use mathlib.Core.Bool.{Bool, true, false}
 use mathlib.Core.List.{List, ◌++◌}
-use Prim.Native.Nat.{ℕ, zero, suc, ◌-◌, ◌*◌, ◌<◌}
+use Prim.Native.Nat.{ℕ, zero, suc, ◌-◌, ◌*◌, ◌<◌, ◌≤◌}
 use native.Mathlib.Omega.{arith}
 use borrow.Author.Tests.{eqb-true, eqb-false}
 use lib.Dec.{eqb}
 use lib.IntN.{ℤ, pos}
-use lib.ListN.{get_or}
+use lib.ListN.{length, get_or}
 use Rattle.lists.proofs.Grow.{get_d_tab}
 use Rattle.orders.specs.Arrays.{Parents}
 use Rattle.orders.specs.Nodes.{parent}
+use Rattle.orders.specs.Sound.{Ordered}
+use Rattle.orders.proofs.Parents.{parent_above}
+use Rattle.text.specs.Decimal.{decimal}
+use Rattle.lines.proofs.Size.{node_figures}
 use Rattle.lines.specs.Lines.{first_line, second_line, parents, parent_field, node_line, node_lines, tree_text}
 use Rattle.lines.proofs.Fields.{field-root, field_other}
 
@@ -42,22 +46,10 @@ module _ (n : ℕ) (ps ps' : List ℕ) (us us' vs vs' : List ℤ) (ws ws' : List
       let h : m < suc m = omega arith in
       rw (e, s.same_u m h, s.same_v m h, s.same_w m h, field_same m (s.same_p m h))
 
-parents_at : (n : ℕ) (js : List ℕ) (k : ℕ) → k < 2 * n - 2 → get_or (parents n js) k 0 ≡ parent n js k
-parents_at n js k l = get_d_tab (parent n js) (2 * n - 2) k 0 l
-
 -- the parents that the code has worked out
-pub parents_same : (n : ℕ) (js ps : List ℕ) → Parents n js ps → (k : ℕ) → k < 2 * n - 1 → (k ≡ 2 * n - 2 → ⊥) → get_or ps k 0 ≡ get_or (parents n js) k 0
-parents_same n js ps p k h e =
-    let l : k < 2 * n - 2 = omega (arith, e) in
-    p k l ∙ sym (parents_at n js k l)
+pub parent_at : (n : ℕ) (js ps : List ℕ) → Parents n js ps → (k : ℕ) → k < 2 * n - 2 → get_or ps k 0 ≡ get_or (parents n js) k 0
+parent_at n js ps p k l = p k l ∙ sym (get_d_tab (parent n js) (2 * n - 2) k 0 l)
 
-pub text_with : (n total : ℕ) (isProven : Bool) (js ps : List ℕ) (us vs : List ℤ) (ws : List ℕ) → Parents n js ps
-    → tree_text n total isProven js us vs ws ≡ first_line n total isProven ++ (second_line n js ++ node_lines n ps us vs ws (2 * n - 1))
-unfolding tree_text
-text_with n total isProven js ps us vs ws p =
-    rw (lines_same n (parents n js) ps us us vs vs ws ws (2 * n - 1) record {
-      same_p = λ k h e. sym (parents_same n js ps p k h e);
-      same_u = λ k h. refl;
-      same_v = λ k h. refl;
-      same_w = λ k h. refl;
-    })
+-- no parent's number has more than four figures
+pub parent_figures : (n : ℕ) (js ps : List ℕ) (k : ℕ) → Ordered n js → Parents n js ps → k < 2 * n - 2 → length (decimal (get_or ps k 0)) ≤ 4
+parent_figures n js ps k o p h = rw (p k h) (node_figures (parent n js k) (omega (arith, (parent_above n js o k h).1, o.few)))

@@ -2,5 +2,6 @@
 #![tactic(auto)]
 
 pub mod brackets;
+pub mod embedded;
 pub mod line;
 pub mod whole;

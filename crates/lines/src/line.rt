@@ -1,130 +1,111 @@
 // The lines: line 1, the line of each node, and a refusal.
-ghost use Rattle.std.specs.Prelude.{◌≡◌, [], ◌∷◌, ◌++◌, ◌+◌, ◌-◌, ◌*◌, ◌^◌, ◌≤◌, ◌<◌, pos, length, get_or};
-ghost use Rattle.text.specs.Decimal.{blank, signed};
-ghost use Rattle.lines.specs.Lines.{feed, mark, first_line, node_line, node_lines, refusal_line, too_long};
-ghost use Rattle.lines.specs.Parts.{ParentsUp, Tall, from_parent, place_end};
-ghost use Rattle.text.specs.Written.{Room, Written};
+ghost use Rattle.std.specs.Prelude.{◌≡◌, [], ◌∷◌, ◌++◌, ◌+◌, ◌-◌, ◌*◌, ◌≤◌, ◌<◌, length};
+ghost use Rattle.orders.specs.Arrays.{Parents};
+ghost use Rattle.lines.specs.Lines.{feed, mark, first_line, refusal_line, too_long};
+ghost use Rattle.lines.specs.Parts.{Grown, from_parent, line_of, lines_to, place_end};
+ghost use Rattle.text.specs.Decimal.{blank};
+ghost use Rattle.text.specs.Written.{Room, Writes};
 
+use crate::embedded::Embedded;
 use plane::refusal;
 use plane::refusal::{Place, Refusal};
-use text::write;
-
-fn wide(x: u32) -> usize
-    ensures { (result ≡ x) × (result < 2 ^ 32) }
-{
-    x as usize
-}
+use text::page::Page;
 
 // The last field of line 1: whether the tree is proven.
-fn last_field(out: &mut [u8], at: usize, proven: bool) -> usize
-    requires { Room at (blank ∷ mark proven ++ (feed ∷ [])) out.old }
-    ensures { Written at result (blank ∷ mark proven ++ (feed ∷ [])) out.old out.new }
+fn last_field(proven: bool) -> &'static [u8]
+    ensures { result.now ≡ blank ∷ mark proven ++ (feed ∷ []) }
 {
-    if proven {
-        return write::word(out, at, b" proven\n");
-    }
-    write::word(out, at, b" greedy\n")
+    if proven { b" proven\n" } else { b" greedy\n" }
 }
 
-pub fn first_line(out: &mut [u8], at: usize, n: usize, total: u32, proven: bool) -> usize
-    requires { Room at (first_line n total proven) out.old }
-    ensures { Written at result (first_line n total proven) out.old out.new }
+#[tactic(auto, unfolding(crate::specs::Lines::first_line))]
+pub fn first_line(page: &mut Page, n: usize, total: u32, proven: bool)
+    requires { Room page.old (first_line n total proven) }
+    ensures { Writes (first_line n total proven) page.old page.new }
 {
-    let a = write::word(out, at, b"sinks ");
-    let b = write::number(out, a, n);
-    let c = write::word(out, b, b" wire ");
-    let d = write::number(out, c, wide(total));
-    last_field(out, d, proven)
+    page.word(b"sinks ");
+    page.number(n);
+    page.word(b" wire ");
+    page.number(total);
+    page.word(last_field(proven));
 }
 
 // The last field of a node's line: its parent, and - for the root.
-fn parent_field(out: &mut [u8], at: usize, ps: &[usize], n: usize, k: usize) -> usize
-    requires { ParentsUp n ps.now × (k < 2 * n - 1) × (at + 6 ≤ length out.old) }
-    ensures { Written at result (from_parent n ps.now k) out.old out.new × (result ≤ at + 6) }
+#[tactic(auto, using(crate::proofs::Same::parent_figures))]
+fn parent_field(page: &mut Page, t: &Embedded, ps: &[usize; 1023], k: usize)
+    requires tree { Grown t.now }
+    requires parents { Parents t.now.n t.now.js.now ps.now }
+    requires node { k < 2 * t.now.n - 1 }
+    requires room { page.old.at + 6 ≤ length page.old.out.now }
+    ensures writes { Writes (from_parent t.now k) page.old page.new }
+    ensures within { page.new.at ≤ page.old.at + 6 }
 {
-    if k == 2 * n - 2 {
-        return write::word(out, at, b" -\n");
+    if k == 2 * t.n - 2 {
+        return page.word(b" -\n");
     }
-    let end = write::next_number(out, at, ps[k]);
-    write::byte(out, end, b'\n')
-}
-
-// U or V of node k.
-fn place_field(out: &mut [u8], at: usize, us: &[i32], k: usize) -> usize
-    requires { (k < length us.now) × (at + 12 ≤ length out.old) }
-    ensures { Written at result (blank ∷ signed (get_or us.now k (pos 0))) out.old out.new × (result ≤ at + 12) }
-{
-    write::next_signed(out, at, us[k])
+    page.next(ps[k]);
+    page.byte(b'\n');
 }
 
 // The line of node k, of at most 45 bytes.
-fn node_line(
-    out: &mut [u8],
-    at: usize,
-    ps: &[usize],
-    us: &[i32],
-    vs: &[i32],
-    ws: &[u32],
-    n: usize,
-    k: usize,
-) -> usize
-    requires { Tall n ps.now us.now vs.now ws.now × (k < 2 * n - 1) × (at + 45 ≤ length out.old) }
-    ensures { Written at result (node_line n ps.now us.now vs.now ws.now k) out.old out.new × (result ≤ at + 45) }
+#[tactic(auto, using(crate::proofs::Size::figures))]
+fn node_line(page: &mut Page, t: &Embedded, ps: &[usize; 1023], k: usize)
+    requires tree { Grown t.now }
+    requires parents { Parents t.now.n t.now.js.now ps.now }
+    requires node { k < 2 * t.now.n - 1 }
+    requires room { page.old.at + 45 ≤ length page.old.out.now }
+    ensures writes { Writes (line_of t.now k) page.old page.new }
+    ensures within { page.new.at ≤ page.old.at + 45 }
 {
-    let a = write::number(out, at, k);
-    let b = place_field(out, a, us, k);
-    let c = place_field(out, b, vs, k);
-    let d = write::next_number(out, c, wide(ws[k]));
-    parent_field(out, d, ps, n, k)
+    page.number(k);
+    page.next(t.us[k]);
+    page.next(t.vs[k]);
+    page.next(t.ws[k]);
+    parent_field(page, t, ps, k);
 }
 
 // The lines of all nodes.
-pub fn node_lines(
-    out: &mut [u8],
-    at: usize,
-    ps: &[usize],
-    us: &[i32],
-    vs: &[i32],
-    ws: &[u32],
-    n: usize,
-) -> usize
-    requires { Tall n ps.now us.now vs.now ws.now × (at + 45 * (2 * n - 1) ≤ length out.old) }
-    ensures { Written at result (node_lines n ps.now us.now vs.now ws.now (2 * n - 1)) out.old out.new × (result ≤ at + 45 * (2 * n - 1)) }
+pub fn node_lines(page: &mut Page, t: &Embedded, ps: &[usize; 1023])
+    requires tree { Grown t.now }
+    requires parents { Parents t.now.n t.now.js.now ps.now }
+    requires room { page.old.at + 45 * (2 * t.now.n - 1) ≤ length page.old.out.now }
+    ensures writes { Writes (lines_to t.now (2 * t.now.n - 1)) page.old page.new }
+    ensures within { page.new.at ≤ page.old.at + 45 * (2 * t.now.n - 1) }
 {
-    let all = 2 * n - 1;
-    let mut end = at;
-    let mut k = 0;
-    while k < all {
-        end = node_line(out, end, ps, us, vs, ws, n, k);
-        k += 1;
+    for k in 0..2 * t.n - 1 {
+        node_line(page, t, ps, k);
     }
-    end
 }
 
 // The end of a refusal: the place if any.
-fn place_end(out: &mut [u8], at: usize, p: Place) -> usize
-    requires { at + 22 ≤ length out.old }
-    ensures { Written at result (place_end p) out.old out.new × (result ≤ at + 22) }
+#[tactic(auto, using(crate::proofs::Size::figures))]
+fn place_end(page: &mut Page, p: Place)
+    requires { page.old.at + 22 ≤ length page.old.out.now }
+    ensures writes { Writes (place_end p) page.old page.new }
+    ensures within { page.new.at ≤ page.old.at + 22 }
 {
     let Place::At(i) = p else {
-        return write::byte(out, at, b'\n');
+        return page.byte(b'\n');
     };
-    let end = write::next_number(out, at, i);
-    write::byte(out, end, b'\n')
+    page.next(i);
+    page.byte(b'\n');
 }
 
-pub fn refusal_line(out: &mut [u8], at: usize, r: Refusal) -> usize
-    requires { at + 40 ≤ length out.old }
-    ensures { Written at result (refusal_line r) out.old out.new × (result ≤ at + 40) }
+#[tactic(auto, using(crate::proofs::Size::figures))]
+pub fn refusal_line(page: &mut Page, r: Refusal)
+    requires { page.old.at + 40 ≤ length page.old.out.now }
+    ensures writes { Writes (refusal_line r) page.old page.new }
+    ensures within { page.new.at ≤ page.old.at + 40 }
 {
-    let a = write::word(out, at, b"refused ");
-    let b = write::number(out, a, wide(refusal::number_of(r)));
-    place_end(out, b, refusal::place_of(r))
+    page.word(b"refused ");
+    page.number(refusal::number_of(r));
+    place_end(page, refusal::place_of(r));
 }
 
-pub fn too_long_line(out: &mut [u8], at: usize) -> usize
-    requires { Room at too_long out.old }
-    ensures { Written at result too_long out.old out.new }
+#[tactic(auto, unfolding(crate::specs::Lines::too_long))]
+pub fn too_long_line(page: &mut Page)
+    requires { Room page.old too_long }
+    ensures { Writes too_long page.old page.new }
 {
-    write::word(out, at, b"refused input\n")
+    page.word(b"refused input\n");
 }

@@ -14,13 +14,13 @@ use Rattle.plane.specs.declared.refusal.Checked.{Checked}
 use Rattle.plane.specs.declared.refusal.Checked.TheVariants.{Fine, Refused}
 use Rattle.plane.proofs.Checks.{accepted}
 use Rattle.plane.specs.Refusals.{and_then}
-use Rattle.lists.proofs.Zeros.{zeros_lent}
+use Rattle.std.proofs.lemmas.List.{take-replicate}
 use Rattle.fields.specs.Form.{form}
 use Rattle.house.specs.Reading.{check_sink_file, xs_in, ys_in, ReadsSinks, told_read}
 use Rattle.house.specs.declared.answer.Reading.{Reading}
 use Rattle.house.specs.declared.answer.Reading.TheVariants.{Sinks, NotRead}
 use Rattle.lines.specs.Parts.{Sinked}
-use Rattle.lists.proofs.Front.{front_lent}
+use Rattle.lists.proofs.Front.{front_part}
 
 then_fine : (a b : Checked) → and_then a b ≡ Fine → b ≡ Fine
 then_fine Fine b e = e
@@ -54,9 +54,9 @@ module _ (f : List ℕ) {xs ys xs' ys' : List ℤ} (said : Reading) (m : ReadsSi
   pub record Taken (n : ℕ) : Type 0 where
     pub fine : check_sink_file f ≡ Fine
     pub counts : n ≡ length (xs_in f)
-    pub takes_x : take (n - 0) xs' ≡ xs_in f
-    pub takes_y : take (n - 0) ys' ≡ ys_in f
-    pub takes_none : take {A = ℕ} (n - 0) (replicate 512 0) ≡ prompt (xs_in f)
+    pub takes_x : take n xs' ≡ xs_in f
+    pub takes_y : take n ys' ≡ ys_in f
+    pub takes_none : take {A = ℕ} n (replicate 512 0) ≡ prompt (xs_in f)
     pub few : n ≤ 512
     pub room_x : n ≤ length xs'
     pub room_y : n ≤ length ys'
@@ -73,9 +73,9 @@ module _ (f : List ℕ) {xs ys xs' ys' : List ℤ} (said : Reading) (m : ReadsSi
           record {
             fine = e;
             counts = i;
-            takes_x = front_lent (xs_in f) xs n (rw q at m.writes_x) (sym i);
-            takes_y = front_lent (ys_in f) ys n (rw q at m.writes_y) (sym a ∙ sym i);
-            takes_none = zeros_lent 512 n (rw i l) ∙ ap (λ (k : ℕ). replicate k 0) i;
+            takes_x = front_part (xs_in f) xs n (rw q at m.writes_x) (sym i);
+            takes_y = front_part (ys_in f) ys n (rw q at m.writes_y) (sym a ∙ sym i);
+            takes_none = take-replicate n 512 0 (rw i l) ∙ ap (λ (k : ℕ). replicate k 0) i;
             few = rw i l;
             room_x = rw (rw q at m.writes_x, length-append (xs_in f) (drop (length (xs_in f)) xs)) (omega arith);
             room_y = rw (rw q at m.writes_y, length-append (ys_in f) (drop (length (ys_in f)) ys)) (omega arith);

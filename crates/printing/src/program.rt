@@ -1,84 +1,76 @@
 // The program's answer to a sink file.
-ghost use Rattle.std.specs.Prelude.{true, false, ◌≤◌, length};
+ghost use Rattle.std.specs.Prelude.{◌≡◌, ◌+◌, ◌≤◌, length};
+ghost use Rattle.lists.specs.Grow.{front};
 ghost use Rattle.plane.specs.Sinks.{sinks_at};
-ghost use Rattle.nearest.specs.Calls.{order_at};
-ghost use Rattle.subsets.specs.Best.{step_count};
-ghost use Rattle.search.specs.Searching.{joins_found};
 ghost use Rattle.lines.specs.Parts.{Sinked};
 ghost use Rattle.lines.specs.Printed.{Printed};
-ghost use Rattle.printing.specs.Program.{tree_lines, lines_of, text_of};
+ghost use Rattle.printing.specs.Program.{joins_of, lines_of, text_of};
+ghost use Rattle.text.specs.Written.{Writes};
 
+use embedding::embed;
 use house::answer::Reading;
 use house::sink_file;
+use lines::embedded::Embedded;
 use lines::{line, whole};
-use nearest::tree;
+use nearest::order;
 use search::search as exact;
 use subsets::subset;
+use text::page::Page;
 
-// The lines of the tree of joining by least diameter.
-fn greedy_lines(xs: &[i32], ys: &[i32], delays: &[u32], out: &mut [u8]) -> usize
-    requires { Sinked xs.now ys.now delays.now × (49152 ≤ length out.old) }
-    ensures { Printed (tree_lines (sinks_at xs.now ys.now delays.now) (order_at xs.now ys.now delays.now) false) out.old result out.new }
+// The pairs of the program's tree: of the exact search for at most twelve sinks, by least diameter for more.
+fn write_joins(xs: &[i32], ys: &[i32], delays: &[u32], js: &mut [u16; 1022])
+    requires { Sinked xs.now ys.now delays.now }
+    ensures { js.new ≡ front (joins_of (sinks_at xs.now ys.now delays.now)) js.old }
+{
+    if xs.len() <= 12 {
+        let mut table = [0u32; 4096];
+        exact::search_joins(xs, ys, delays, subset::all_steps(xs.len()), &mut table, js);
+        return;
+    }
+    order::order_sound(xs, ys, delays, js);
+}
+
+// The lines of the program's tree.
+fn sinks_lines(page: &mut Page, xs: &[i32], ys: &[i32], delays: &[u32])
+    requires sinks { Sinked xs.now ys.now delays.now }
+    requires room { page.old.at + 49152 ≤ length page.old.out.now }
+    ensures writes { Writes (lines_of (sinks_at xs.now ys.now delays.now)) page.old page.new }
+    ensures within { page.new.at ≤ page.old.at + 49152 }
 {
     let n = xs.len();
     let mut js = [0u16; 1022];
+    write_joins(xs, ys, delays, &mut js);
+    let js = &js[..2 * (n - 1)];
     let mut us = [0i32; 1023];
     let mut vs = [0i32; 1023];
     let mut ws = [0u32; 1023];
-    let total = tree::tree_sound(xs, ys, delays, &mut js, &mut us, &mut vs, &mut ws);
-    let end = 2 * (n - 1);
-    whole::tree_text(out, &js[0..end], &us, &vs, &ws, n, total, false)
-}
-
-// The lines of the tree of the exact search, of at most twelve sinks.
-fn proven_lines(xs: &[i32], ys: &[i32], delays: &[u32], out: &mut [u8]) -> usize
-    requires { Sinked xs.now ys.now delays.now × (length xs.now ≤ 12) × (49152 ≤ length out.old) }
-    ensures { Printed (tree_lines (sinks_at xs.now ys.now delays.now) (joins_found (sinks_at xs.now ys.now delays.now) (step_count (length xs.now))) true) out.old result out.new }
-{
-    let n = xs.len();
-    let mut table = [0u32; 4096];
-    let mut js = [0u16; 22];
-    let mut us = [0i32; 23];
-    let mut vs = [0i32; 23];
-    let mut ws = [0u32; 23];
-    let found = exact::search_sound(
-        xs,
-        ys,
-        delays,
-        subset::all_steps(n),
-        &mut table,
-        &mut js,
-        &mut us,
-        &mut vs,
-        &mut ws,
-    );
-    let end = 2 * (n - 1);
-    whole::tree_text(out, &js[0..end], &us, &vs, &ws, n, found.total, true)
-}
-
-fn sinks_lines(xs: &[i32], ys: &[i32], delays: &[u32], out: &mut [u8]) -> usize
-    requires { Sinked xs.now ys.now delays.now × (49152 ≤ length out.old) }
-    ensures { Printed (lines_of (sinks_at xs.now ys.now delays.now)) out.old result out.new }
-{
-    if xs.len() <= 12 {
-        return proven_lines(xs, ys, delays, out);
-    }
-    greedy_lines(xs, ys, delays, out)
+    let total = embed::embed_sound(xs, ys, delays, js, &mut us, &mut vs, &mut ws);
+    let tree = Embedded {
+        n,
+        js,
+        us: &us,
+        vs: &vs,
+        ws: &ws,
+        total,
+    };
+    whole::tree_text(page, &tree, n <= 12);
 }
 
 // All that the program prints for its input. Every answer fits the buffer.
 pub fn tree_lines(input: &[u8], out: &mut [u8; 49152]) -> usize
     ensures { Printed (text_of input.now) out.old result out.new }
 {
+    let mut page = Page::new(out);
     if 32768 < input.len() {
-        return line::too_long_line(out, 0);
+        line::too_long_line(&mut page);
+        return page.len();
     }
     let mut xs = [0i32; 512];
     let mut ys = [0i32; 512];
     let none = [0u32; 512];
-    let said = sink_file::read_sinks(input, &mut xs, &mut ys);
-    match said {
-        Reading::NotRead(r) => line::refusal_line(out, 0, r),
-        Reading::Sinks(n) => sinks_lines(&xs[0..n], &ys[0..n], &none[0..n], out),
+    match sink_file::read_sinks(input, &mut xs, &mut ys) {
+        Reading::NotRead(r) => line::refusal_line(&mut page, r),
+        Reading::Sinks(n) => sinks_lines(&mut page, &xs[..n], &ys[..n], &none[..n]),
     }
+    page.len()
 }

@@ -43,7 +43,7 @@ fn write_joins(
 }
 
 // Fills the table and writes the joins, and returns how many splits were examined.
-fn search_joins(
+pub fn search_joins(
     xs: &[i32],
     ys: &[i32],
     delays: &[u32],

@@ -1,4 +1,3 @@
 -- The laws of numbers as text, and of texts that are written one after the other.
 pub mod Decimal
-pub mod Signed
 pub mod Written

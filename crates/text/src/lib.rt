@@ -1,4 +1,5 @@
 // Numbers and words as bytes of text, written into a lent buffer.
 #![tactic(auto)]
 
-pub mod write;
+pub mod figures;
+pub mod page;

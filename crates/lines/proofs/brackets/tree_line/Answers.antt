@@ -1,18 +1,7 @@
-use mathlib.Core.List.{[], ◌∷◌}
-use native.Mathlib.Omega.{arith}
-use Rattle.lines.specs.Lines.{feed, second_line}
-use Rattle.text.proofs.Written.{room_here, room_then, then}
+use Rattle.lines.specs.Lines.{second_line}
+use Rattle.text.proofs.Written.{then}
 use Rattle.lines.proofs.brackets.tree_line.Goals as goal
-
-pub subtree-end-requires : goal.subtree-end-requires
-unfolding second_line
-subtree-end-requires c =
-    (c.requires.0, omega (arith, c.requires.0.some), room_here (feed ∷ []) c.requires.1)
-
-pub byte-requires : goal.byte-requires
-unfolding second_line
-byte-requires c = room_then c.subtree-end.ensures c.requires.1
 
 pub returns : goal.returns
 unfolding second_line
-returns c = then c.subtree-end.ensures c.byte.ensures
+returns c = then c.subtree.ensures c.byte.ensures

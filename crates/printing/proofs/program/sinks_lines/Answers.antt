@@ -1,9 +1,41 @@
+use native.Mathlib.Omega.{arith}
+use lib.ListN.{length}
+use Rattle.orders.proofs.Bounded.{sound}
+use Rattle.printing.specs.Program.{lines_of, joins_of}
 use Rattle.plane.specs.Sinks.{sinks_at}
-use Rattle.printing.proofs.Searched.{lines_small, lines_large}
+use Rattle.printing.proofs.Fronts.{tall_u, tall_v, tall_w, embedded_text}
+use Rattle.printing.proofs.Searched.{joins_ordered, joins_taken}
 use Rattle.printing.proofs.program.sinks_lines.Goals as goal
 
-pub returns-then-xs-le12 : goal.returns-then-xs-le12
-returns-then-xs-le12 c = rw (lines_small (sinks_at c.args.xs.now c.args.ys.now c.args.delays.now) c.if-xs-le12.true) c.proven_lines.ensures
+pub embed_sound-total-requires : goal.embed_sound-total-requires
+embed_sound-total-requires c =
+    let a = c.args in
+    let p = c.requires.sinks in
+    record {
+      sound = rw (joins_taken a.xs.now a.ys.now a.delays.now p _ c.write_joins.new.js c.write_joins.ensures) (sound p.ranged (joins_ordered a.xs.now a.ys.now a.delays.now p));
+      room_u = omega arith;
+      room_v = omega arith;
+      room_w = omega arith;
+    }
 
-pub returns : goal.returns
-returns c = rw (lines_large (sinks_at c.args.xs.now c.args.ys.now c.args.delays.now) c.if-xs-le12.false) c.greedy_lines.ensures
+pub tree_text-requires-clause-tree : goal.tree_text-requires-clause-tree
+tree_text-requires-clause-tree c =
+    let a = c.args in
+    let p = c.requires.sinks in
+    let j = joins_taken a.xs.now a.ys.now a.delays.now p _ c.write_joins.new.js c.write_joins.ensures in
+    let e = rw j at c.embed_sound-total.ensures in
+    record {
+      ordered = rw j (joins_ordered a.xs.now a.ys.now a.delays.now p);
+      tall_u = tall_u a.xs.now a.ys.now a.delays.now _ e;
+      tall_v = tall_v a.xs.now a.ys.now a.delays.now _ e;
+      tall_w = tall_w a.xs.now a.ys.now a.delays.now _ e;
+    }
+
+pub returns-clause-writes : goal.returns-clause-writes
+unfolding lines_of
+returns-clause-writes c =
+    let a = c.args in
+    let p = c.requires.sinks in
+    let j = joins_taken a.xs.now a.ys.now a.delays.now p _ c.write_joins.new.js c.write_joins.ensures in
+    let e = rw j at c.embed_sound-total.ensures in
+    rw (j, embedded_text a.xs.now a.ys.now a.delays.now (joins_of (sinks_at a.xs.now a.ys.now a.delays.now)) e) at c.tree_text.ensures.writes

@@ -1,44 +1,43 @@
-use mathlib.Core.Path.{refl}
-use Rattle.printing.proofs.ReadSinks.{taken_is, sinked, refused_is}
-use Rattle.printing.proofs.Searched.{text_lines, text_long, text_refused}
+use mathlib.Core.Path.{◌≡◌, refl}
+use borrow.Author.Rules.{rules}
 use native.Mathlib.Omega.{arith}
+use lib.ListN.{length}
 use Rattle.lines.specs.Lines.{too_long}
 use Rattle.lines.proofs.Printing.{printed}
+use Rattle.printing.proofs.ReadSinks.{taken_is, sinked, refused_is}
+use Rattle.printing.proofs.Searched.{text_lines, text_long, text_refused}
+use Rattle.printing.proofs.program.tree_lines.Goals.{in-NotRead, in-Sinks}
 use Rattle.printing.proofs.program.tree_lines.Goals as goal
-
-pub slice_bounds-sinks_lines-end : goal.slice_bounds-sinks_lines-end
-slice_bounds-sinks_lines-end c = (taken_is c.args.input.now c.read_sinks-said.result c.read_sinks-said.ensures refl refl c.in-Sinks.is).room_x
-
-pub slice_bounds-sinks_lines-end-in-Sinks : goal.slice_bounds-sinks_lines-end-in-Sinks
-slice_bounds-sinks_lines-end-in-Sinks c = (taken_is c.args.input.now c.read_sinks-said.result c.read_sinks-said.ensures refl refl c.in-Sinks.is).room_y
-
-pub slice_bounds-sinks_lines-end-in-Sinks-2 : goal.slice_bounds-sinks_lines-end-in-Sinks-2
-slice_bounds-sinks_lines-end-in-Sinks-2 c = (taken_is c.args.input.now c.read_sinks-said.result c.read_sinks-said.ensures refl refl c.in-Sinks.is).few
-
-pub returns-in-Sinks : goal.returns-in-Sinks
-returns-in-Sinks c =
-    let f = c.args.input.now in
-    let t = taken_is c.args.input.now c.read_sinks-said.result c.read_sinks-said.ensures refl refl c.in-Sinks.is in
-    rw (text_lines f c.if-input-gt32768.false t.fine) (rw (t.takes_x, t.takes_y, t.takes_none) at c.sinks_lines.ensures)
 
 pub too_long_line-requires : goal.too_long_line-requires
 unfolding too_long
-too_long_line-requires c = record { fits = omega (arith) }
+too_long_line-requires c = record { fits = search rules }
 
 pub returns-then-input-gt32768 : goal.returns-then-input-gt32768
 unfolding too_long
 returns-then-input-gt32768 c =
     let w = c.too_long_line.ensures in
-    rw (text_long c.args.input.now c.if-input-gt32768.true) (printed w (omega (arith, w.ends)))
+    let z : length c.new-page.result.out.now ≡ 49152 = search rules in
+    rw (c.len.ensures, text_long c.args.input.now c.if-input-gt32768.true, ← c.new-page.ensures.holds) (printed w c.new-page.ensures.empty (omega (arith, w.ends)))
 
 pub sinks_lines-requires : goal.sinks_lines-requires
 sinks_lines-requires c =
-    let t = taken_is c.args.input.now c.read_sinks-said.result c.read_sinks-said.ensures refl refl c.in-Sinks.is in
-    (rw (t.takes_x, t.takes_y, t.takes_none) (sinked c.args.input.now t.fine), omega (arith))
+    let t = taken_is c.args.input.now c.read_sinks.result c.read_sinks.ensures refl refl c.in-Sinks.is in
+    let z : length c.new-page.result.out.now ≡ 49152 = search rules in
+    record { sinks = rw (t.takes_x, t.takes_y, t.takes_none) (sinked c.args.input.now t.fine); room = omega (arith, z) }
 
-pub returns-in-NotRead : goal.returns-in-NotRead
-returns-in-NotRead c =
+pub returns : goal.returns
+returns c =
     let f = c.args.input.now in
-    let w = c.refusal_line.ensures in
-    rw (text_refused f c.if-input-gt32768.false (refused_is f c.read_sinks-said.result c.read_sinks-said.ensures refl refl c.in-NotRead.is))
-    (printed w.0 (omega (arith, w.1)))
+    let z : length c.new-page.result.out.now ≡ 49152 = search rules in
+    elim c.match-read_sinks.branch [
+      | in-NotRead w ↦
+          let x = w.refusal_line.ensures in
+          rw (c.len-2.ensures, text_refused f c.if-input-gt32768.false (refused_is f c.read_sinks.result c.read_sinks.ensures refl refl w.in-NotRead.is), ← c.new-page.ensures.holds, w.page-is)
+          (printed x.writes c.new-page.ensures.empty (omega (arith, x.within)))
+      | in-Sinks w ↦
+          let t = taken_is f c.read_sinks.result c.read_sinks.ensures refl refl w.in-Sinks.is in
+          let x = w.sinks_lines.ensures in
+          rw (c.len-2.ensures, text_lines f c.if-input-gt32768.false t.fine, ← c.new-page.ensures.holds, w.page-is)
+          (printed (rw (t.takes_x, t.takes_y, t.takes_none) at x.writes) c.new-page.ensures.empty (omega (arith, x.within)))
+    ]

@@ -1,0 +1,17 @@
+use native.Mathlib.Omega.{arith}
+use lib.Pow.{pow_mono}
+use Rattle.printing.proofs.Searched.{joins_small, joins_large}
+use Rattle.printing.proofs.program.write_joins.Goals as goal
+
+pub search_joins-requires : goal.search_joins-requires
+search_joins-requires c =
+    let p = c.requires in
+    let h = c.if-xs-le12.true in
+    record { ranged = p.ranged; some = p.some; few = h; room_table = pow_mono h; room_js = omega arith }
+
+pub returns-then-xs-le12 : goal.returns-then-xs-le12
+returns-then-xs-le12 c =
+    rw (joins_small c.args.xs.now c.args.ys.now c.args.delays.now c.requires c.if-xs-le12.true, ← c.all_steps.ensures) c.search_joins.ensures.writes_js
+
+pub returns : goal.returns
+returns c = rw (joins_large c.args.xs.now c.args.ys.now c.args.delays.now c.requires c.if-xs-le12.false) c.order_sound.ensures
