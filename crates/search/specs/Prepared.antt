@@ -2,6 +2,8 @@
 use Rattle.std.specs.Prelude.{◌≡◌, List, ℕ, ◌-◌, ◌*◌, ◌^◌, ◌≤◌, ◌<◌, min, ℤ, length, take}
 use Rattle.lists.specs.Grow.{front}
 use Rattle.plane.specs.Sinks.{sinks_at, Ranged}
+use Rattle.plane.specs.declared.sinks.Sinks as lent
+use Rattle.embedding.specs.declared.layout.Layout.{Layout}
 use Rattle.orders.specs.Nodes.{places_u, places_v, wires}
 use Rattle.search.specs.declared.search.Found.{Found}
 use Rattle.subsets.specs.Subsets.{diam}
@@ -45,3 +47,13 @@ pub record Finds (xs ys : List ℤ) (delays : List ℕ) (budget : ℕ) (table js
   pub writes_u : us' ≡ front (places_u (sinks_at xs ys delays) (joins_found (sinks_at xs ys delays) budget)) us
   pub writes_v : vs' ≡ front (places_v (sinks_at xs ys delays) (joins_found (sinks_at xs ys delays) budget)) vs
   pub writes_w : ws' ≡ front (wires (sinks_at xs ys delays) (joins_found (sinks_at xs ys delays) budget)) ws
+
+-- the same of what a caller lends
+abbrev pub PreparedFor : lent.Sinks → List ℕ → List ℕ → Type 0
+PreparedFor s table js = Prepared s.xs.now s.ys.now s.delays.now table js
+
+abbrev pub ProvidedFor : lent.Sinks → List ℕ → List ℕ → Layout → Type 0
+ProvidedFor s table js l = Provided s.xs.now s.ys.now s.delays.now table js l.us.now l.vs.now l.ws.now
+
+abbrev pub FindsIn : lent.Sinks → ℕ → List ℕ → List ℕ → Layout → Found → List ℕ → List ℕ → Layout → Type 0
+FindsIn s budget table js l r table' js' l' = Finds s.xs.now s.ys.now s.delays.now budget table js l.us.now l.vs.now l.ws.now r table' js' l'.us.now l'.vs.now l'.ws.now

@@ -3,6 +3,8 @@ use Rattle.std.specs.Prelude.{◌≡◌, cond, List, ℕ, ◌-◌, ◌^◌, min,
 use Rattle.lists.specs.Grow.{front}
 use Rattle.zero_skew.specs.Plane.{Sinks}
 use Rattle.plane.specs.Sinks.{sinks_at}
+use Rattle.plane.specs.declared.sinks.Sinks as lent
+use Rattle.embedding.specs.declared.layout.Layout.{Layout}
 use Rattle.plane.specs.Said.{Said, after, if_answered}
 use Rattle.orders.specs.Nodes.{places_u, places_v, wires, total}
 use Rattle.nearest.specs.Nearest.{order}
@@ -41,3 +43,7 @@ pub record Searches (xs ys : List ℤ) (delays : List ℕ) (budget : ℕ) (table
   pub writes_u : us' ≡ front (if_answered said (places_u (sinks_at xs ys delays) (joins_found (sinks_at xs ys delays) budget))) us
   pub writes_v : vs' ≡ front (if_answered said (places_v (sinks_at xs ys delays) (joins_found (sinks_at xs ys delays) budget))) vs
   pub writes_w : ws' ≡ front (if_answered said (wires (sinks_at xs ys delays) (joins_found (sinks_at xs ys delays) budget))) ws
+
+-- the same of what a caller lends
+abbrev pub SearchesIn : lent.Sinks → ℕ → List ℕ → List ℕ → Layout → Said Found → List ℕ → List ℕ → Layout → Type 0
+SearchesIn s budget table js l said table' js' l' = Searches s.xs.now s.ys.now s.delays.now budget table js l.us.now l.vs.now l.ws.now said table' js' l'.us.now l'.vs.now l'.ws.now

@@ -1,16 +1,16 @@
 // The checks of the exact search: refusals 1 to 4 and 15, then 7.
-ghost use Rattle.std.specs.Prelude.{◌≡◌, ◌<◌, ◌≤◌};
+ghost use Rattle.std.specs.Prelude.{◌≡◌, ◌<◌, ◌≤◌, length};
 ghost use Rattle.search.specs.Rooms.{check_rooms, check_search};
 
-use embedding::room;
+use embedding::layout::Layout;
 use plane::refusal::Refusal;
-use plane::sinks;
+use plane::sinks::Sinks;
 use subsets::subset;
 
 // Refusal 7: room for the table, the pairs and all nodes of n sinks.
-fn check_rooms(n: usize, table: usize, js: usize, us: usize, vs: usize, ws: usize) -> Result<(), Refusal>
+fn check_rooms(n: usize, table: usize, js: usize, layout: &Layout<'_>) -> Result<(), Refusal>
     requires { (0 < n) × (n ≤ 12) }
-    ensures { result ≡ check_rooms n table js us vs ws }
+    ensures { result ≡ check_rooms n table js (length layout.now.us.now) (length layout.now.vs.now) (length layout.now.ws.now) }
 {
     if table < subset::subsets(n) as usize {
         return Err(Refusal::Room);
@@ -18,23 +18,14 @@ fn check_rooms(n: usize, table: usize, js: usize, us: usize, vs: usize, ws: usiz
     if js < 2 * (n - 1) {
         return Err(Refusal::Room);
     }
-    room::check_room(2 * n - 1, us, vs, ws)
+    layout.check_room(2 * n - 1)
 }
 
 // Refusals 1 to 4 and 15, then 7.
 #[tactic(auto, unfolding(crate::specs::Rooms::check_search))]
-pub fn check_search(
-    xs: &[i32],
-    ys: &[i32],
-    delays: &[u32],
-    table: usize,
-    js: usize,
-    us: usize,
-    vs: usize,
-    ws: usize,
-) -> Result<(), Refusal>
-    ensures { result ≡ check_search xs.now ys.now delays.now table js us vs ws }
+pub fn check_search(sinks: &Sinks<'_>, table: usize, js: usize, layout: &Layout<'_>) -> Result<(), Refusal>
+    ensures { result ≡ check_search sinks.now.xs.now sinks.now.ys.now sinks.now.delays.now table js (length layout.now.us.now) (length layout.now.vs.now) (length layout.now.ws.now) }
 {
-    sinks::check_sinks(xs, ys, delays, 12)?;
-    check_rooms(xs.len(), table, js, us, vs, ws)
+    sinks.check(12)?;
+    check_rooms(sinks.xs.len(), table, js, layout)
 }

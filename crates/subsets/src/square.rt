@@ -2,48 +2,49 @@
 ghost use Rattle.std.specs.Prelude.{◌≡◌, [], ℕ, ◌<◌, ◌≤◌, ◌+◌, ◌^◌, max, length};
 ghost use Rattle.zero_skew.specs.Plane.{dist};
 ghost use Rattle.zero_skew.specs.Box.{apart as apartOf};
-ghost use Rattle.plane.specs.Sinks.{sinks_at, Fitting, Placed};
+ghost use Rattle.plane.specs.Sinks.{sinks_at, sinks_in, count, Fit, Placed};
 ghost use Rattle.subsets.specs.Square.{Square, RowOf, Widths, Changed, held, farthest_in};
 
 use measures::boxes;
-use plane::bounds;
+use plane::sinks;
+use plane::sinks::Sinks;
 
 // The distance of sinks i and j: the larger of the two widths of the box of their places.
 fn distance(xs: &[i32], ys: &[i32], i: usize, j: usize) -> u32
     requires { Placed xs.now ys.now i × Placed xs.now ys.now j }
     ensures { (result ≡ dist ((sinks_at xs.now ys.now []).at i) ((sinks_at xs.now ys.now []).at j)) × (result ≤ 28000000) }
 {
-    boxes::diameter(boxes::hull(bounds::place_at(xs, ys, i), bounds::place_at(xs, ys, j)))
+    boxes::diameter(boxes::hull(sinks::place_at(xs, ys, i), sinks::place_at(xs, ys, j)))
 }
 
 // How far sinks i and j are apart: their distance and both delays.
-fn apart(xs: &[i32], ys: &[i32], delays: &[u32], i: usize, j: usize) -> u32
-    requires { Fitting xs.now ys.now delays.now × (i < length xs.now) × (j < length xs.now) }
-    ensures { result ≡ apartOf (sinks_at xs.now ys.now delays.now) i j }
+fn apart(sinks: &Sinks<'_>, i: usize, j: usize) -> u32
+    requires { Fit sinks.now × (i < count sinks.now) × (j < count sinks.now) }
+    ensures { result ≡ apartOf (sinks_in sinks.now) i j }
 {
-    distance(xs, ys, i, j) + (delays[i] + delays[j])
+    distance(sinks.xs, sinks.ys, i, j) + (sinks.delays[i] + sinks.delays[j])
 }
 
 // How far sink i is apart from each sink.
-fn row(xs: &[i32], ys: &[i32], delays: &[u32], i: usize) -> [u32; 12]
-    requires { Fitting xs.now ys.now delays.now × (i < length xs.now) × (length xs.now ≤ 12) }
-    ensures { RowOf (sinks_at xs.now ys.now delays.now) i (length xs.now) result }
+fn row(sinks: &Sinks<'_>, i: usize) -> [u32; 12]
+    requires { Fit sinks.now × (i < count sinks.now) × (count sinks.now ≤ 12) }
+    ensures { RowOf (sinks_in sinks.now) i (count sinks.now) result }
 {
     let mut r: [u32; 12] = [0; 12];
-    for j in 0..xs.len() {
-        r[j] = apart(xs, ys, delays, i, j);
+    for j in 0..sinks.xs.len() {
+        r[j] = apart(sinks, i, j);
     }
     r
 }
 
 // How far all sinks are apart.
-pub fn square(xs: &[i32], ys: &[i32], delays: &[u32]) -> [[u32; 12]; 12]
-    requires { Fitting xs.now ys.now delays.now × (length xs.now ≤ 12) }
-    ensures { Square (sinks_at xs.now ys.now delays.now) result }
+pub fn square(sinks: &Sinks<'_>) -> [[u32; 12]; 12]
+    requires { Fit sinks.now × (count sinks.now ≤ 12) }
+    ensures { Square (sinks_in sinks.now) result }
 {
     let mut q: [[u32; 12]; 12] = [[0; 12]; 12];
-    for i in 0..xs.len() {
-        q[i] = row(xs, ys, delays, i);
+    for i in 0..sinks.xs.len() {
+        q[i] = row(sinks, i);
     }
     q
 }

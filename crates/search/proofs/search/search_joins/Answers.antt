@@ -20,10 +20,10 @@ pub fill-steps-requires : goal.fill-steps-requires
 fill-steps-requires c =
     let a = c.args in
     let p = c.requires in
-    let w = diameters_are a.xs.now a.ys.now a.delays.now a.budget p.few c.square.result c.diameters.new.ds c.square.ensures c.diameters.ensures in (
+    let w = diameters_are a.sinks.now.xs.now a.sinks.now.ys.now a.sinks.now.delays.now a.budget p.few c.square.result c.diameters.new.ds c.square.ensures c.diameters.ensures in (
       p.few,
       p.room_table,
-      λ m l. omega (arith, w m l, diam_small a.xs.now a.ys.now a.delays.now p.ranged m),
+      λ m l. omega (arith, w m l, diam_small a.sinks.now.xs.now a.sinks.now.ys.now a.sinks.now.delays.now p.ranged m),
     )
 
 pub write_joins-requires : goal.write_joins-requires
@@ -35,8 +35,8 @@ write_joins-requires c =
     record {
       prepared =
           record { ranged = p.ranged; some = p.some; few = p.few; room_table = rw f.auto.table p.room_table; room_js = p.room_js };
-      diameters = diameters_are a.xs.now a.ys.now a.delays.now a.budget p.few c.square.result ds c.square.ensures c.diameters.ensures;
-      after = filled_part a.xs.now a.ys.now a.delays.now a.budget (held ds) a.table.now f.new.table f.ensures.table_after;
+      diameters = diameters_are a.sinks.now.xs.now a.sinks.now.ys.now a.sinks.now.delays.now a.budget p.few c.square.result ds c.square.ensures c.diameters.ensures;
+      after = filled_part a.sinks.now.xs.now a.sinks.now.ys.now a.sinks.now.delays.now a.budget (held ds) a.table.now f.new.table f.ensures.table_after;
     }
 
 pub returns : goal.returns
@@ -45,9 +45,9 @@ returns c =
     let p = c.requires in
     let ds : List ℕ = c.diameters.new.ds in
     let f = c.fill-steps in
-    let w = diameters_are a.xs.now a.ys.now a.delays.now a.budget p.few c.square.result ds c.square.ensures c.diameters.ensures in
+    let w = diameters_are a.sinks.now.xs.now a.sinks.now.ys.now a.sinks.now.delays.now a.budget p.few c.square.result ds c.square.ensures c.diameters.ensures in
     record {
       counts = f.ensures.value;
-      writes_table = f.ensures.table_after ∙ ap (λ (l : List ℕ). front l a.table.now) (table_agree (held ds) (diam (sinks_at a.xs.now a.ys.now a.delays.now)) (length a.xs.now) a.budget w);
+      writes_table = f.ensures.table_after ∙ ap (λ (l : List ℕ). front l a.table.now) (table_agree (held ds) (diam (sinks_at a.sinks.now.xs.now a.sinks.now.ys.now a.sinks.now.delays.now)) (length a.sinks.now.xs.now) a.budget w);
       writes_js = c.write_joins.ensures;
     }
