@@ -7,4 +7,3 @@ use Rattle.subsets.proofs.square.row.Given as goal
 -- The invariant: the first j entries are in the row.
 abbrev pub invariant-loop-j : goal.invariant-loop-j
 invariant-loop-j l = (length l.r ≡ 12) × RowOf (sinks_at l.xs l.ys l.delays) l.i l.j l.r
-

@@ -5,4 +5,3 @@ use Rattle.subsets.proofs.square.stretch.Given as goal
 -- The invariant: the first r are done.
 abbrev pub invariant-loop-r : goal.invariant-loop-r
 invariant-loop-r l = Changed (l.half + l.step) l.r (λ (k : ℕ). max (held l.initial.ds (l.half + k)) l.w) l.initial.ds l.ds
-
