@@ -1,5 +1,6 @@
 // A subset of the sinks is a number whose bit i stands for sink i.
-ghost use Rattle.std.specs.Prelude.{◌≡◌, ◌<◌, ◌≤◌, ◌^◌, ◌-◌, length};
+ghost use Rattle.std.specs.Prelude.{◌≡◌, ◌<◌, ◌≤◌, ◌^◌, ◌-◌, MatchOption, bit_and, length};
+ghost use Rattle.std.specs.Iterator.{at_most};
 ghost use Rattle.subsets.specs.Subsets.{lowest, splits};
 ghost use Rattle.subsets.specs.Best.{step_count};
 ghost use Rattle.subsets.specs.Table.{blank_of};
@@ -18,6 +19,39 @@ pub fn beyond(s: u32) -> u32
     ensures { result ≡ s - 2 ^ lowest s }
 {
     s - (1u32 << first(s))
+}
+
+// The parts of a subset but the empty one, in falling order: `next` comes next.
+#[derive(Clone, Copy)]
+pub struct Parts {
+    pub whole: u32,
+    pub next: u32,
+}
+
+impl Parts {
+    // All parts of a subset.
+    pub fn of(whole: u32) -> Parts
+        ensures { (result.whole ≡ whole) × (result.next ≡ whole) }
+    {
+        Parts { whole, next: whole }
+    }
+}
+
+impl Iterator for Parts {
+    type Item = u32;
+
+    ghost next_gives = { λ s r t. MatchOption r (s.next ≡ 0) (λ x. (0 < s.next) × (x ≡ s.next) × (t.whole ≡ s.whole) × (t.next ≡ bit_and (s.next - 1) s.whole)) };
+
+    ghost remaining = { λ s. at_most s.next };
+
+    fn next(&mut self) -> Option<u32> {
+        if self.next == 0 {
+            return None;
+        }
+        let part = self.next;
+        self.next = (part - 1) & self.whole;
+        Some(part)
+    }
 }
 
 // How many subsets n sinks have.
