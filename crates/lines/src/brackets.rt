@@ -6,7 +6,6 @@ ghost use Rattle.lines.specs.Brackets.{brackets};
 ghost use Rattle.lines.specs.Lines.{second_line};
 ghost use Rattle.text.specs.Written.{Room, Written};
 
-use orders::joins;
 use text::write;
 
 // A join is its two children, each written the same way; they have smaller numbers. A sink is its number.
@@ -18,8 +17,8 @@ pub fn subtree(out: &mut [u8], at: usize, js: &[u16], n: usize, k: usize) -> usi
         return write::number(out, at, k);
     }
     let pair = 2 * (k - n);
-    let a = joins::entry(js, pair);
-    let b = joins::entry(js, pair + 1);
+    let a = usize::from(js[pair]);
+    let b = usize::from(js[pair + 1]);
     let open = write::byte(out, at, b'(');
     let mid = subtree(out, open, js, n, a);
     let gap = write::byte(out, mid, b' ');

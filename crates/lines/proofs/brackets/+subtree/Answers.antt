@@ -32,37 +32,37 @@ returns-then-k-n t c =
 pub byte-open-requires : goal.byte-open-requires
 byte-open-requires t c =
     let z = c.requires in
-    let r = rw (join_text c.args.n c.args.js.now z.0 c.args.k c.if-k-n.false z.1 c.entry-a.result c.entry-b.result c.entry-a.ensures c.entry-b.ensures) at z.2 in
+    let r = rw (join_text c.args.n c.args.js.now z.0 c.args.k c.if-k-n.false z.1 c.from-a.result c.from-b.result c.from-a.ensures c.from-b.ensures) at z.2 in
     room_here _ r
 
 pub subtree-mid-requires : goal.subtree-mid-requires
 subtree-mid-requires t c =
     let z = c.requires in
-    let l = left_low c.args.n c.args.js.now z.0 c.args.k c.if-k-n.false z.1 c.entry-a.result c.entry-b.result c.entry-a.ensures c.entry-b.ensures in
-    let r = rw (join_text c.args.n c.args.js.now z.0 c.args.k c.if-k-n.false z.1 c.entry-a.result c.entry-b.result c.entry-a.ensures c.entry-b.ensures) at z.2 in
+    let l = left_low c.args.n c.args.js.now z.0 c.args.k c.if-k-n.false z.1 c.from-a.result c.from-b.result c.from-a.ensures c.from-b.ensures in
+    let r = rw (join_text c.args.n c.args.js.now z.0 c.args.k c.if-k-n.false z.1 c.from-a.result c.from-b.result c.from-a.ensures c.from-b.ensures) at z.2 in
     (omega (arith, c.decreases, l), (z.0, omega (arith, z.1, l), room_here _ (room_left _ _ r c.byte-open.ensures)))
 
 pub byte-gap-requires : goal.byte-gap-requires
 byte-gap-requires t c =
     let z = c.requires in
-    let r = rw (join_text c.args.n c.args.js.now z.0 c.args.k c.if-k-n.false z.1 c.entry-a.result c.entry-b.result c.entry-a.ensures c.entry-b.ensures) at z.2 in
+    let r = rw (join_text c.args.n c.args.js.now z.0 c.args.k c.if-k-n.false z.1 c.from-a.result c.from-b.result c.from-a.ensures c.from-b.ensures) at z.2 in
     room_here _ (room_gap _ _ r c.byte-open.ensures c.subtree-mid.ensures)
 
 pub subtree-end-requires : goal.subtree-end-requires
 subtree-end-requires t c =
     let z = c.requires in
-    let l = right_low c.args.n c.args.js.now z.0 c.args.k c.if-k-n.false z.1 c.entry-a.result c.entry-b.result c.entry-a.ensures c.entry-b.ensures in
-    let r = rw (join_text c.args.n c.args.js.now z.0 c.args.k c.if-k-n.false z.1 c.entry-a.result c.entry-b.result c.entry-a.ensures c.entry-b.ensures) at z.2 in
+    let l = right_low c.args.n c.args.js.now z.0 c.args.k c.if-k-n.false z.1 c.from-a.result c.from-b.result c.from-a.ensures c.from-b.ensures in
+    let r = rw (join_text c.args.n c.args.js.now z.0 c.args.k c.if-k-n.false z.1 c.from-a.result c.from-b.result c.from-a.ensures c.from-b.ensures) at z.2 in
     (omega (arith, c.decreases, l), (z.0, omega (arith, z.1, l), room_here _ (room_right _ _ r c.byte-open.ensures c.subtree-mid.ensures c.byte-gap.ensures)))
 
 pub byte-requires : goal.byte-requires
 byte-requires t c =
     let z = c.requires in
-    let r = rw (join_text c.args.n c.args.js.now z.0 c.args.k c.if-k-n.false z.1 c.entry-a.result c.entry-b.result c.entry-a.ensures c.entry-b.ensures) at z.2 in
+    let r = rw (join_text c.args.n c.args.js.now z.0 c.args.k c.if-k-n.false z.1 c.from-a.result c.from-b.result c.from-a.ensures c.from-b.ensures) at z.2 in
     room_end _ _ r c.byte-open.ensures c.subtree-mid.ensures c.byte-gap.ensures c.subtree-end.ensures
 
 pub returns : goal.returns
 returns t c =
     let z = c.requires in
-    rw (join_text c.args.n c.args.js.now z.0 c.args.k c.if-k-n.false z.1 c.entry-a.result c.entry-b.result c.entry-a.ensures c.entry-b.ensures)
+    rw (join_text c.args.n c.args.js.now z.0 c.args.k c.if-k-n.false z.1 c.from-a.result c.from-b.result c.from-a.ensures c.from-b.ensures)
     (then c.byte-open.ensures (then c.subtree-mid.ensures (then c.byte-gap.ensures (then c.subtree-end.ensures c.byte.ensures))))

@@ -12,8 +12,8 @@ put_joins-sum-requires g c =
       (
         c.requires.0.joins,
         up_begin c.requires.0.sinks.delayed
-        (record { boxes = omega (arith, r.boxes); diameters = omega (arith, r.diameters); parents = r.parents; room = r.room; fits = r.fits })
-        c.put_own-own.ensures c.put_sinks.ensures,
+            (record { boxes = omega (arith, r.boxes); diameters = omega (arith, r.diameters); parents = r.parents; room = r.room; fits = r.fits })
+            c.put_own-own.ensures c.put_sinks.ensures,
       ),
     )
 
