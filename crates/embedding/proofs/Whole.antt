@@ -20,7 +20,6 @@ use Rattle.plane.proofs.Checks.{placed}
 use Rattle.measures.proofs.Lifted.{unlift}
 use Rattle.measures.proofs.Fairness.{fair-diam}
 use Rattle.measures.specs.declared.segment.Spot.{Spot}
-use Rattle.measures.specs.declared.boxes.Box.{Box}
 use Rattle.orders.specs.declared.nodes.Nodes.{Nodes}
 use Rattle.orders.specs.Nodes.{d, parent, value, wire, places_u, places_v, wires, total}
 use Rattle.orders.specs.Table.{box_at}

@@ -5,7 +5,6 @@ use Rattle.plane.specs.Sinks.{Placed}
 use Rattle.measures.specs.Measures.{lowered, raised}
 use Rattle.measures.specs.Spots.{root_of, nearest_of}
 use Rattle.measures.specs.declared.segment.Spot.{Spot}
-use Rattle.measures.specs.declared.boxes.Box.{Box}
 use Rattle.orders.specs.declared.nodes.Nodes.{Nodes}
 use Rattle.orders.specs.Table.{box_at}
 use Rattle.orders.specs.Arrays.{Fairs, Diameters, Rising, NodeRoom}

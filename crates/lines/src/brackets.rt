@@ -6,7 +6,6 @@ ghost use Rattle.lines.specs.Brackets.{brackets};
 ghost use Rattle.lines.specs.Lines.{second_line};
 ghost use Rattle.text.specs.Written.{Room, Writes};
 
-use orders::joins;
 use text::page::Page;
 
 // A join is its two children, each written the same way; they have smaller numbers. A sink is its number.
@@ -20,8 +19,8 @@ pub fn subtree(page: &mut Page, js: &[u16], n: usize, k: usize)
         return page.number(k);
     }
     let pair = 2 * (k - n);
-    let a = joins::entry(js, pair);
-    let b = joins::entry(js, pair + 1);
+    let a = usize::from(js[pair]);
+    let b = usize::from(js[pair + 1]);
     page.byte(b'(');
     subtree(page, js, n, a);
     page.byte(b' ');

@@ -11,7 +11,7 @@ ghost use Rattle.nearest.specs.Ready.{CanJoin};
 use crate::keep;
 use measures::boxes;
 use measures::boxes::Box;
-use orders::{joins, table};
+use orders::table;
 use partners::pair::Pair;
 use partners::{best, live};
 use plane::refusal::Refusal;
@@ -23,8 +23,8 @@ fn write_pair(js: &mut [u16], i: usize, p: Pair)
     ensures { js.new ≡ set (set js.old (2 * i) p.low) (2 * i + 1) p.high }
 {
     let at = 2 * i;
-    js[at] = joins::narrow(p.low);
-    js[at + 1] = joins::narrow(p.high);
+    js[at] = p.low as u16;
+    js[at + 1] = p.high as u16;
 }
 
 // Node m's box: the hull of a pair.

@@ -9,7 +9,6 @@ use Rattle.lists.proofs.Grow.{sum_same}
 use Rattle.zero_skew.specs.Plane.{Sinks}
 use Rattle.measures.specs.Boxes.{diam_of}
 use Rattle.plane.proofs.Covering.{covers_diam}
-use Rattle.measures.specs.declared.boxes.Box.{Box}
 use Rattle.orders.specs.declared.nodes.Nodes.{Nodes}
 use Rattle.orders.specs.Nodes.{d, below, total}
 use Rattle.orders.specs.Table.{box_at}

@@ -5,19 +5,11 @@ ghost use Rattle.orders.specs.Joins.{bad_at, check_joins};
 use plane::refusal::Refusal;
 
 // Entry p of the pairs.
-pub fn entry(js: &[u16], p: usize) -> usize
+fn entry(js: &[u16], p: usize) -> usize
     requires { p < length js.now }
     ensures { result ≡ get_or js.now p 0 }
 {
-    js[p] as usize
-}
-
-// A node number, as pairs hold it.
-pub fn narrow(k: usize) -> u16
-    requires { k < 65536 }
-    ensures { result ≡ k }
-{
-    k as u16
+    usize::from(js[p])
 }
 
 // Whether a pair that makes node top names a node twice, or one that is not lower.

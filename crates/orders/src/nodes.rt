@@ -5,7 +5,7 @@ ghost use Rattle.orders.specs.Sound.{Ordered, SoundFor};
 ghost use Rattle.orders.specs.Arrays.{Parents, NodeRoom, OwnRoom, PutsOwn, Up, PutsJoin, PutsJoins, AllNodes};
 ghost use Rattle.orders.specs.Nodes.{total};
 
-use crate::{joins, table};
+use crate::table;
 use measures::boxes;
 use measures::boxes::Box;
 use plane::sinks::Sinks;
@@ -38,8 +38,8 @@ fn put_join<const N: usize>(js: &[u16], n: usize, i: usize, nodes: &mut Nodes<N>
     requires { Ordered n js.now × (i < n - 1) × Up n js.now i nodes.old }
     ensures { PutsJoin n js.now i nodes.old result nodes.new }
 {
-    let a = joins::entry(js, 2 * i);
-    let b = joins::entry(js, 2 * i + 1);
+    let a = usize::from(js[2 * i]);
+    let b = usize::from(js[2 * i + 1]);
     let m = n + i;
     let c = boxes::hull(nodes.hulls[a], nodes.hulls[b]);
     let d = boxes::breadth(c);
@@ -82,11 +82,8 @@ pub fn parents(js: &[u16], n: usize) -> [usize; 1023]
     ensures { Parents n js.now result }
 {
     let mut ps = [0usize; 1023];
-    let mut j = 0;
-    while j < js.len() {
-        let k = joins::entry(js, j);
-        ps[k] = n + j / 2;
-        j += 1;
+    for (j, k) in js.iter().enumerate() {
+        ps[usize::from(*k)] = n + j / 2;
     }
     ps
 }

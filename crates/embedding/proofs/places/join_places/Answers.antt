@@ -1,6 +1,5 @@
-use Prim.Native.Nat.{◌-◌, ◌*◌}
 use native.Mathlib.Omega.{arith}
-use Rattle.embedding.proofs.Spots.{down_begin, down_again, down_more, down_done, open_next}
+use Rattle.embedding.proofs.Spots.{down_begin, down_more, down_done, open_next}
 use Rattle.embedding.proofs.places.join_places.Goals as goal
 
 pub put_near-requires : goal.put_near-requires

@@ -13,36 +13,36 @@ returns-then-k-n t c = rw (sink_text c.requires.ordered c.if-k-n.true) c.number.
 pub byte-requires : goal.byte-requires
 byte-requires t c =
     let z = c.requires in
-    room_here _ (join_room z.ordered c.if-k-n.false z.node c.entry-a.ensures c.entry-b.ensures z.room)
+    room_here _ (join_room z.ordered c.if-k-n.false z.node c.from-a.ensures c.from-b.ensures z.room)
 
 pub subtree-requires : goal.subtree-requires
 subtree-requires t c =
     let z = c.requires in
-    let r = join_room z.ordered c.if-k-n.false z.node c.entry-a.ensures c.entry-b.ensures z.room in
-    let l = left_low z.ordered c.if-k-n.false z.node c.entry-a.ensures c.entry-b.ensures in
+    let r = join_room z.ordered c.if-k-n.false z.node c.from-a.ensures c.from-b.ensures z.room in
+    let l = left_low z.ordered c.if-k-n.false z.node c.from-a.ensures c.from-b.ensures in
     (omega (arith, c.decreases, l), (z.ordered, (omega (arith, z.node, l), room_here _ (room_then c.byte.ensures r))))
 
 pub byte-requires-2 : goal.byte-requires-2
 byte-requires-2 t c =
     let z = c.requires in
-    let r = join_room z.ordered c.if-k-n.false z.node c.entry-a.ensures c.entry-b.ensures z.room in
+    let r = join_room z.ordered c.if-k-n.false z.node c.from-a.ensures c.from-b.ensures z.room in
     room_here _ (room_then c.subtree.ensures (room_then c.byte.ensures r))
 
 pub subtree-requires-2 : goal.subtree-requires-2
 subtree-requires-2 t c =
     let z = c.requires in
-    let r = join_room z.ordered c.if-k-n.false z.node c.entry-a.ensures c.entry-b.ensures z.room in
-    let l = right_low z.ordered c.if-k-n.false z.node c.entry-a.ensures c.entry-b.ensures in
+    let r = join_room z.ordered c.if-k-n.false z.node c.from-a.ensures c.from-b.ensures z.room in
+    let l = right_low z.ordered c.if-k-n.false z.node c.from-a.ensures c.from-b.ensures in
     (omega (arith, c.decreases, l), (z.ordered, (omega (arith, z.node, l), room_here _ (room_then c.byte-2.ensures (room_then c.subtree.ensures (room_then c.byte.ensures r))))))
 
 pub byte-requires-3 : goal.byte-requires-3
 byte-requires-3 t c =
     let z = c.requires in
-    let r = join_room z.ordered c.if-k-n.false z.node c.entry-a.ensures c.entry-b.ensures z.room in
+    let r = join_room z.ordered c.if-k-n.false z.node c.from-a.ensures c.from-b.ensures z.room in
     room_then c.subtree-2.ensures (room_then c.byte-2.ensures (room_then c.subtree.ensures (room_then c.byte.ensures r)))
 
 pub returns : goal.returns
 returns t c =
     let z = c.requires in
-    rw (join_text z.ordered c.if-k-n.false z.node c.entry-a.ensures c.entry-b.ensures)
+    rw (join_text z.ordered c.if-k-n.false z.node c.from-a.ensures c.from-b.ensures)
     (then c.byte.ensures (then c.subtree.ensures (then c.byte-2.ensures (then c.subtree-2.ensures c.byte-3.ensures))))
