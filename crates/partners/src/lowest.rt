@@ -22,7 +22,12 @@ fn least(ds: &[u32]) -> u32
 fn first_at(ds: &[u32], d: u32) -> Option<usize>
     ensures { result ≡ position (λ e. eqb e d) ds.now }
 {
-    ds.iter().position(|e| *e == d)
+    for (t, e) in ds.iter().enumerate() {
+        if *e == d {
+            return Some(t);
+        }
+    }
+    None
 }
 
 // The first of the least of some numbers.
