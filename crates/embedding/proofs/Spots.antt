@@ -76,7 +76,7 @@ module _ {k : ℕ} {p : Spot} {us vs us' vs' : List ℤ} (w : PutsSpot k p us vs
   other_v i r = rw w.writes_v (get_or-set_other vs k i (lowered p.v.0) (pos 0) r)
 
 -- ---- the joins
-module _ {n : ℕ} {bs ps : List ℕ} where
+module _ {n : ℕ} {bs : List Box} {ps : List ℕ} where
   pub spots_held : {m : ℕ} {us vs : List ℤ} → Spots n bs ps m us vs → (k : ℕ) → m ≤ k → k < 2 * n - 1 → SpotHeld us vs k (spot_at us vs k)
   spots_held {m} {us} {vs} w k h g =
       ⊎_elim
@@ -133,7 +133,7 @@ module _ {n : ℕ} {bs ps : List ℕ} where
       }
 
 -- node k can be read and written
-pub open_at : {n : ℕ} {bs ds ps : List ℕ} {us vs : List ℤ} (k : ℕ) → Sized n bs ds ps → 2 * n - 1 ≤ length us → 2 * n - 1 ≤ length vs → k < 2 * n - 1 → Placeable k bs ds us vs
+pub open_at : {n : ℕ} {bs : List Box} {ds ps : List ℕ} {us vs : List ℤ} (k : ℕ) → Sized n bs ds ps → 2 * n - 1 ≤ length us → 2 * n - 1 ≤ length vs → k < 2 * n - 1 → Placeable k bs ds us vs
 open_at k w a b h =
     record {
       boxed = omega (arith, w.room.boxes);
@@ -148,7 +148,7 @@ pub still_room : {m a b l : ℕ} → m ≤ a → b ≡ a → l ≡ b → m ≤ l
 still_room h p q = omega arith
 
 -- the node before the one that the pass has come to, and its parent
-pub open_next : {n k p : ℕ} {bs ds ps : List ℕ} {us vs : List ℤ} → Sized n bs ds ps → 2 * n - 1 ≤ length us → 2 * n - 1 ≤ length vs → n < k → k ≤ 2 * n - 2 → p ≡ get_or ps (k - 1) 0 → Spots n bs ps k us vs → Placeable (k - 1) bs ds us vs × Has us vs p × SpotHeld us vs p (spot_at us vs p)
+pub open_next : {n k p : ℕ} {bs : List Box} {ds ps : List ℕ} {us vs : List ℤ} → Sized n bs ds ps → 2 * n - 1 ≤ length us → 2 * n - 1 ≤ length vs → n < k → k ≤ 2 * n - 2 → p ≡ get_or ps (k - 1) 0 → Spots n bs ps k us vs → Placeable (k - 1) bs ds us vs × Has us vs p × SpotHeld us vs p (spot_at us vs p)
 open_next {n} {k} {p} w a b h g e z =
     let r = w.rising (k - 1) (omega arith) in
     let low : k ≤ p = omega (arith, r.0) in
@@ -208,7 +208,7 @@ module _ {xs ys : List ℤ} where
       here = subst (SpotHeld us' vs' k) (g ∙ ap root_of e) (put_here w (subst Low (sym g) (low_root f)) has)
 
   -- with the sinks, all nodes have their places
-  pub spots_all : {bs ps : List ℕ} {us vs us' vs' : List ℤ} → Rising (length xs) ps
+  pub spots_all : {bs : List Box} {ps : List ℕ} {us vs us' vs' : List ℤ} → Rising (length xs) ps
       → ((k : ℕ) → k < length xs → root_of (sink_box (get_or xs k (pos 0)) (get_or ys k (pos 0)) 0) ≡ root_of (box_at bs k)) → ((k : ℕ) → k < length xs → (p : Spot) → root_of (box_at bs k) ≡ nearest_of (box_at bs k) p)
       → Spots (length xs) bs ps (length xs) us vs → PutsSinks xs ys (length xs) us vs us' vs' → Spots (length xs) bs ps 0 us' vs'
   spots_all {bs} {ps} {us} {vs} {us'} {vs'} rise stands still made w =

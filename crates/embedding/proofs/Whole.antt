@@ -20,6 +20,7 @@ use Rattle.plane.proofs.Checks.{placed}
 use Rattle.measures.proofs.Lifted.{unlift}
 use Rattle.measures.proofs.Fairness.{fair-diam}
 use Rattle.measures.specs.declared.segment.Spot.{Spot}
+use Rattle.measures.specs.declared.boxes.Box.{Box}
 use Rattle.orders.specs.Nodes.{d, parent, value, wire, places_u, places_v, wires, total}
 use Rattle.orders.specs.Table.{box_at}
 use Rattle.orders.specs.Arrays.{Rising, AllNodes, Longer, Climbs, wire_in}
@@ -31,7 +32,7 @@ use Rattle.orders.proofs.Totals.{fairs, diam_is, size_is}
 use Rattle.orders.proofs.Lifting.{value_lifts}
 use Rattle.embedding.proofs.Spots.{spot_is, spots_held, sink_near, sink-root, spots_all}
 
-module _ {s : Sinks} {js bs ds ps : List ℕ} (m : AllNodes s js bs ds ps) where
+module _ {s : Sinks} {js : List ℕ} {bs : List Box} {ds ps : List ℕ} (m : AllNodes s js bs ds ps) where
   abbrev n : ℕ
   n = s.n
 
@@ -120,7 +121,7 @@ front_is {A} g m a old new e h made kept = ext_get_or a new (front (tab g m) old
         (or_lt k m)
 
 -- the buffers before, after the joins, and after the sinks
-places_are : {xs ys : List ℤ} (delays : List ℕ) {js bs ds ps : List ℕ} {us vs mid-u mid-v us' vs' : List ℤ} → AllPlaced xs ys → AllNodes (sinks_at xs ys delays) js bs ds ps
+places_are : {xs ys : List ℤ} (delays : List ℕ) {js : List ℕ} {bs : List Box} {ds ps : List ℕ} {us vs mid-u mid-v us' vs' : List ℤ} → AllPlaced xs ys → AllNodes (sinks_at xs ys delays) js bs ds ps
     → 2 * length xs - 1 ≤ length us → 2 * length xs - 1 ≤ length vs → length us' ≡ length us → length vs' ≡ length vs
     → PutsDown (length xs) bs ps (length xs) us vs mid-u mid-v → PutsSinks xs ys (length xs) mid-u mid-v us' vs'
     → (us' ≡ front (places_u (sinks_at xs ys delays) js) us) × (vs' ≡ front (places_v (sinks_at xs ys delays) js) vs)
@@ -136,7 +137,7 @@ places_are {xs} {ys} delays {js} {bs} {ds} {ps} {us} {vs} {mid-u} {mid-v} {us'} 
     covers k h = subst (λ (l : List ℕ). Covers (sinks_at xs ys delays) l (box_at bs k)) (below_sink (length xs) js m.ordered k h) (m.boxed k (omega arith))
 
 -- the whole call, from what its four parts leave
-pub embeds : {xs ys : List ℤ} {delays js bs ds ps : List ℕ} {us vs mid-u mid-v us' vs' : List ℤ} {ws ws' : List ℕ} {t : ℕ} → Ready xs ys delays js us vs ws
+pub embeds : {xs ys : List ℤ} {delays js : List ℕ} {bs : List Box} {ds ps : List ℕ} {us vs mid-u mid-v us' vs' : List ℤ} {ws ws' : List ℕ} {t : ℕ} → Ready xs ys delays js us vs ws
     → AllNodes (sinks_at xs ys delays) js bs ds ps → t ≡ total (sinks_at xs ys delays) js → length us' ≡ length us → length vs' ≡ length vs
     → PutsDown (length xs) bs ps (length xs) us vs mid-u mid-v → PutsSinks xs ys (length xs) mid-u mid-v us' vs' → ws' ≡ front (tab (wire_in (length xs) ds ps) (2 * length xs - 1)) ws
     → Embeds xs ys delays js us vs ws t us' vs' ws'

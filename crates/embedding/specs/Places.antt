@@ -5,11 +5,12 @@ use Rattle.plane.specs.Sinks.{Placed}
 use Rattle.measures.specs.Measures.{lowered, raised}
 use Rattle.measures.specs.Spots.{root_of, nearest_of}
 use Rattle.measures.specs.declared.segment.Spot.{Spot}
-use Rattle.orders.specs.Table.{box_at, Boxed}
+use Rattle.measures.specs.declared.boxes.Box.{Box}
+use Rattle.orders.specs.Table.{box_at}
 use Rattle.orders.specs.Arrays.{Fairs, Diameters, Rising, NodeRoom}
 
 -- what the places are found from, parents first
-pub record Sized (n : ℕ) (bs ds ps : List ℕ) : Type 0 where
+pub record Sized (n : ℕ) (bs : List Box) (ds ps : List ℕ) : Type 0 where
   pub some : 0 < n
   pub few : n ≤ 512
   pub room : NodeRoom n bs ds ps
@@ -41,8 +42,8 @@ abbrev pub Has : List ℤ → List ℤ → ℕ → Type 0
 Has us vs k = (k < length us) × (k < length vs)
 
 -- node k's box and diameter can be read, and its place can be written
-pub record Placeable (k : ℕ) (bs ds : List ℕ) (us vs : List ℤ) : Type 0 where
-  pub boxed : Boxed bs k
+pub record Placeable (k : ℕ) (bs : List Box) (ds : List ℕ) (us vs : List ℤ) : Type 0 where
+  pub boxed : k < length bs
   pub measured : k < length ds
   pub has : Has us vs k
   pub fair : Fair (box_at bs k)
@@ -54,7 +55,7 @@ pub record PutsSpot (k : ℕ) (p : Spot) (us vs us' vs' : List ℤ) : Type 0 whe
   pub writes_v : vs' ≡ set vs k (lowered p.v.0)
 
 -- the places of the root and of the nodes from m on
-pub record Spots (n : ℕ) (bs ps : List ℕ) (m : ℕ) (us vs : List ℤ) : Type 0 where
+pub record Spots (n : ℕ) (bs : List Box) (ps : List ℕ) (m : ℕ) (us vs : List ℤ) : Type 0 where
   pub root : SpotHeld us vs (2 * n - 2) (root_of (box_at bs (2 * n - 2)))
   pub next : (k : ℕ) → m ≤ k → k < 2 * n - 2 → SpotHeld us vs k (nearest_of (box_at bs k) (spot_at us vs (get_or ps k 0)))
 
@@ -63,7 +64,7 @@ abbrev pub Kept : ℕ → List ℤ → List ℤ → Type 0
 Kept m old new = (k : ℕ) → m ≤ k → get_or new k (pos 0) ≡ get_or old k (pos 0)
 
 -- the places of the joins are written: the buffers before and after
-pub record PutsDown (n : ℕ) (bs ps : List ℕ) (m : ℕ) (us vs us' vs' : List ℤ) : Type 0 where
+pub record PutsDown (n : ℕ) (bs : List Box) (ps : List ℕ) (m : ℕ) (us vs us' vs' : List ℤ) : Type 0 where
   pub spots : Spots n bs ps m us' vs'
   pub kept_u : Kept (2 * n - 1) us us'
   pub kept_v : Kept (2 * n - 1) vs vs'

@@ -7,6 +7,8 @@ ghost use Rattle.embedding.specs.Embedding.{told_tree};
 ghost use Rattle.embedding.specs.Permitted.{Permitted};
 
 use crate::{places, room, wires};
+use measures::boxes;
+use measures::boxes::Box;
 use orders::{check, nodes};
 use plane::refusal::{Checked, Refusal};
 
@@ -26,7 +28,7 @@ fn embed_in(
     us: &mut [i32],
     vs: &mut [i32],
     ws: &mut [u32],
-    bs: &mut [u32],
+    bs: &mut [Box],
     ds: &mut [u32],
     ps: &mut [u16],
 ) -> u32
@@ -54,7 +56,7 @@ fn embed_few(
     requires { Ready xs.now ys.now delays.now js.now us.old vs.old ws.old × (length xs.now ≤ 12) }
     ensures { Embeds xs.now ys.now delays.now js.now us.old vs.old ws.old result us.new vs.new ws.new }
 {
-    let mut bs = [0u32; 92];
+    let mut bs = [boxes::BLANK; 23];
     let mut ds = [0u32; 23];
     let mut ps = [0u16; 23];
     embed_in(xs, ys, delays, js, us, vs, ws, &mut bs, &mut ds, &mut ps)
@@ -76,7 +78,7 @@ pub fn embed_sound(
     if xs.len() <= 12 {
         return embed_few(xs, ys, delays, js, us, vs, ws);
     }
-    let mut bs = [0u32; 4092];
+    let mut bs = [boxes::BLANK; 1023];
     let mut ds = [0u32; 1023];
     let mut ps = [0u16; 1023];
     embed_in(xs, ys, delays, js, us, vs, ws, &mut bs, &mut ds, &mut ps)

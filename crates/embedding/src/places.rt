@@ -4,9 +4,10 @@ ghost use Rattle.embedding.specs.Places.{Sized, AllPlaced, Low, spot_at, SpotHel
 ghost use Rattle.measures.specs.Spots.{root_of, nearest_of};
 ghost use Rattle.orders.specs.Table.{box_at};
 
+use measures::boxes::Box;
 use measures::segment::Spot;
 use measures::{measure, segment};
-use orders::{joins, table};
+use orders::joins;
 use plane::bounds;
 
 // The place that the buffers hold for node k.
@@ -29,26 +30,26 @@ fn put_spot(us: &mut [i32], vs: &mut [i32], k: usize, s: Spot)
 }
 
 // The place of node k as the root.
-fn put_root(bs: &[u32], ds: &[u32], k: usize, us: &mut [i32], vs: &mut [i32])
+fn put_root(bs: &[Box], ds: &[u32], k: usize, us: &mut [i32], vs: &mut [i32])
     requires { Placeable k bs.now ds.now us.old vs.old }
     ensures { PutsSpot k (root_of (box_at bs.now k)) us.old vs.old us.new vs.new }
 {
-    let s = segment::root_spot(table::box_at(bs, k), ds[k]);
+    let s = segment::root_spot(bs[k], ds[k]);
     put_spot(us, vs, k, s);
 }
 
 // The place of node k from that of its parent p.
-fn put_near(bs: &[u32], ds: &[u32], k: usize, p: usize, us: &mut [i32], vs: &mut [i32])
+fn put_near(bs: &[Box], ds: &[u32], k: usize, p: usize, us: &mut [i32], vs: &mut [i32])
     requires { Placeable k bs.now ds.now us.old vs.old × Has us.old vs.old p × SpotHeld us.old vs.old p (spot_at us.old vs.old p) }
     ensures { PutsSpot k (nearest_of (box_at bs.now k) (spot_at us.old vs.old p)) us.old vs.old us.new vs.new }
 {
     let at = spot_at(us, vs, p);
-    let s = segment::nearest_spot(table::box_at(bs, k), ds[k], at);
+    let s = segment::nearest_spot(bs[k], ds[k], at);
     put_spot(us, vs, k, s);
 }
 
 // The root's place, then each join's from its parent's, which has a higher number: it is read back from the buffers.
-pub fn join_places(bs: &[u32], ds: &[u32], ps: &[u16], n: usize, us: &mut [i32], vs: &mut [i32])
+pub fn join_places(bs: &[Box], ds: &[u32], ps: &[u16], n: usize, us: &mut [i32], vs: &mut [i32])
     requires { Sized n bs.now ds.now ps.now × (2 * n - 1 ≤ length us.old) × (2 * n - 1 ≤ length vs.old) }
     ensures { PutsDown n bs.now ps.now n us.old vs.old us.new vs.new }
 {

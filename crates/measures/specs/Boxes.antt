@@ -4,6 +4,10 @@ use Rattle.measures.specs.declared.measure.Tilted.{Tilted}
 use Rattle.measures.specs.declared.boxes.Box.{Box}
 use Rattle.measures.specs.Measures.{kept_as, grid_of, u_of, v_of, less_of, more_of, least_of, greatest_of, gap}
 
+-- what stands in a list of boxes where none is put yet
+abbrev pub blank : Box
+blank = record { lu = kept_as 0; hu = kept_as 0; lv = kept_as 0; hv = kept_as 0 }
+
 -- the box that reaches w to each side of u and v
 abbrev pub around_box : Tilted → Tilted → ℕ → Box
 around_box u v w = record { lu = less_of u w; hu = more_of u w; lv = less_of v w; hv = more_of v w }

@@ -15,6 +15,14 @@ pub struct Box {
     pub hv: Tilted,
 }
 
+// What stands in an array of boxes where none is put yet.
+pub const BLANK: Box = Box {
+    lu: measure::CORNER,
+    hu: measure::CORNER,
+    lv: measure::CORNER,
+    hv: measure::CORNER,
+};
+
 // The box that reaches w to each side of u and v.
 fn around(u: Tilted, v: Tilted, w: u32) -> Box
     requires { (u.0 ≤ 72000000) × (v.0 ≤ 72000000) × Brief w × (w ≤ u.0) × (w ≤ v.0) }

@@ -12,6 +12,9 @@ pub struct Grid(u32);
 #[derive(Clone, Copy)]
 pub struct Tilted(u32);
 
+// The far corner of the plane, from which they are counted.
+pub const CORNER: Tilted = Tilted(0);
+
 // A coordinate U or V, in half grid units.
 #[derive(Clone, Copy)]
 pub struct Doubled(u32);

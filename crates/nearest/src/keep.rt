@@ -1,12 +1,11 @@
 // The live nodes and their rows, from join to join.
-ghost use Rattle.std.specs.Prelude.{◌-◌, ◌*◌, ◌≤◌, ◌<◌, length};
+ghost use Rattle.std.specs.Prelude.{◌-◌, ◌≤◌, ◌<◌, length};
 ghost use Rattle.lists.specs.Grow.{up_to};
 ghost use Rattle.measures.specs.Boxes.{InOrder};
 ghost use Rattle.partners.specs.Boxes.{Upright};
 ghost use Rattle.partners.specs.Rows.{row_at, skip_both, Right, Seated, Entered, Closed};
 
 use measures::boxes::Box;
-use orders::table;
 use partners::best::Choice;
 use partners::pair::Near;
 use partners::live;
@@ -62,11 +61,11 @@ pub fn close(live: &mut [usize], rows: &mut Rows, c: Choice, b: Box, m: usize)
 }
 
 // The rows of all sinks.
-pub fn begin(bs: &[u32], rows: &mut Rows, n: usize)
-    requires { (n ≤ 512) × (4 * n ≤ length bs.now) × Upright n bs.now }
+pub fn begin(bs: &[Box], rows: &mut Rows, n: usize)
+    requires { (n ≤ 512) × (n ≤ length bs.now) × Upright n bs.now }
     ensures { Right bs.now (up_to n) n (row_at rows.new) }
 {
     for i in 0..n {
-        enter(rows, i, table::box_at(bs, i), i);
+        enter(rows, i, bs[i], i);
     }
 }

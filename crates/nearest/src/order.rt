@@ -2,12 +2,14 @@
 ghost use Rattle.std.specs.Prelude.{◌≡◌, ◌+◌, ◌*◌, ◌<◌, length, set};
 ghost use Rattle.lists.specs.Grow.{front};
 ghost use Rattle.measures.specs.Boxes.{hull_of};
-ghost use Rattle.orders.specs.Table.{box_at, Boxed, Puts};
+ghost use Rattle.orders.specs.Table.{box_at};
 ghost use Rattle.nearest.specs.Rounds.{Open, Round};
 ghost use Rattle.nearest.specs.Calls.{order_at, check_nearest, Joining, told_order};
 ghost use Rattle.nearest.specs.Ready.{CanJoin};
 
 use crate::keep;
+use measures::boxes;
+use measures::boxes::Box;
 use orders::{joins, table};
 use partners::pair::Pair;
 use partners::rows::Rows;
@@ -33,16 +35,15 @@ fn write_pair(js: &mut [u16], i: usize, p: Pair)
 }
 
 // Node m's box: the hull of a pair.
-fn put_hull(bs: &mut [u32], m: usize, p: Pair)
-    requires { Boxed bs.old m × (p.low < m) × (p.high < m) }
-    ensures { Puts m (hull_of (box_at bs.old p.low) (box_at bs.old p.high)) bs.old bs.new }
+fn put_hull(bs: &mut [Box], m: usize, p: Pair)
+    requires { (m < length bs.old) × (p.low < m) × (p.high < m) }
+    ensures { bs.new ≡ set bs.old m (hull_of (box_at bs.old p.low) (box_at bs.old p.high)) }
 {
-    let b = table::union_at(bs, p.low, p.high);
-    table::put_box(bs, m, b);
+    bs[m] = boxes::hull(bs[p.low], bs[p.high]);
 }
 
 // Join i of n sinks: the best pair is joined and written, and what is kept is right again for the live nodes, one fewer.
-fn round(bs: &mut [u32], live: &mut [usize], rows: &mut Rows, n: usize, i: usize, js: &mut [u16])
+fn round(bs: &mut [Box], live: &mut [usize], rows: &mut Rows, n: usize, i: usize, js: &mut [u16])
     requires { Open n i bs.old live.old rows.old js.old }
     ensures { Round n i bs.old bs.new live.old live.new rows.new js.old js.new }
 {
@@ -50,7 +51,7 @@ fn round(bs: &mut [u32], live: &mut [usize], rows: &mut Rows, n: usize, i: usize
     let c = best::nearest(live, bs, rows);
     let p = best::pair_at(live, c);
     put_hull(bs, m, p);
-    keep::close(live, rows, c, table::box_at(bs, m), m);
+    keep::close(live, rows, c, bs[m], m);
     write_pair(js, i, p);
 }
 
@@ -60,7 +61,7 @@ pub fn order_sound(xs: &[i32], ys: &[i32], delays: &[u32], js: &mut [u16])
     ensures { js.new ≡ front (order_at xs.now ys.now delays.now) js.old }
 {
     let n = xs.len();
-    let mut bs = [0u32; 4092];
+    let mut bs = [boxes::BLANK; 1023];
     let mut live = [0usize; 512];
     let mut rows = Rows::blank();
     table::put_sinks(xs, ys, delays, &mut bs);

@@ -9,6 +9,7 @@ use lib.IntN.{ℤ}
 use lib.ListN.{length, get_or}
 use Rattle.lists.specs.Grow.{sum_to}
 use Rattle.plane.specs.Sinks.{sinks_at}
+use Rattle.measures.specs.declared.boxes.Box.{Box}
 use Rattle.orders.specs.Sound.{Sound}
 use Rattle.orders.specs.Nodes.{total}
 use Rattle.orders.specs.Table.{Sinked}
@@ -17,13 +18,13 @@ use Rattle.orders.proofs.Upward.{joins_made}
 use Rattle.orders.proofs.Totals.{own_less, total_is}
 
 -- ---- room
-pub own_room : {xs ys : List ℤ} {delays js bs ds ps : List ℕ} → Sound xs ys delays js → NodeRoom (length xs) bs ds ps → OwnRoom delays ds
+pub own_room : {xs ys : List ℤ} {delays js : List ℕ} {bs : List Box} {ds ps : List ℕ} → Sound xs ys delays js → NodeRoom (length xs) bs ds ps → OwnRoom delays ds
 own_room s r = record { few = omega (arith, s.sinks.delayed, s.joins.few); brief = s.sinks.brief; room = omega (arith, s.sinks.delayed, s.joins.some, r.diameters) }
 
-pub sinks-room : {n : ℕ} {bs ds ps : List ℕ} → NodeRoom n bs ds ps → 4 * n ≤ length bs
-sinks-room r = omega (arith, r.boxes)
+pub sinks-room : {n : ℕ} {bs : List Box} {ds ps : List ℕ} → 0 < n → NodeRoom n bs ds ps → n ≤ length bs
+sinks-room h r = omega (arith, r.boxes)
 
-pub room_still : {n : ℕ} {bs ds ps bs' ds' : List ℕ} → NodeRoom n bs ds ps → length bs' ≡ length bs → length ds' ≡ length ds → NodeRoom n bs' ds' ps
+pub room_still : {n : ℕ} {bs : List Box} {ds ps : List ℕ} {bs' : List Box} {ds' : List ℕ} → NodeRoom n bs ds ps → length bs' ≡ length bs → length ds' ≡ length ds → NodeRoom n bs' ds' ps
 room_still r p q = record { boxes = omega (arith, r.boxes); diameters = omega (arith, r.diameters); parents = r.parents }
 
 -- the root's diameter can be read
@@ -40,7 +41,7 @@ pub root_in : {n a b l : ℕ} → 0 < n → 2 * n - 1 ≤ a → b ≡ a → l �
 root_in h g p q = omega arith
 
 -- ---- the sums, where the root's diameter is x
-module _ {xs ys : List ℤ} {delays js old : List ℕ} {own sum x : ℕ} {bs ds ps old-ds : List ℕ} (sound : Sound xs ys delays js) (put : Sinked xs ys delays (length xs) old) (o : PutsOwn delays (length delays) own old-ds) (w : PutsJoins (length xs) js (length xs - 1) old sum bs ds ps) (e : x ≡ get_or ds (2 * length xs - 2) 0) where
+module _ {xs ys : List ℤ} {delays js : List ℕ} {old : List Box} {own sum x : ℕ} {bs : List Box} {ds ps old-ds : List ℕ} (sound : Sound xs ys delays js) (put : Sinked xs ys delays (length xs) old) (o : PutsOwn delays (length delays) own old-ds) (w : PutsJoins (length xs) js (length xs - 1) old sum bs ds ps) (e : x ≡ get_or ds (2 * length xs - 2) 0) where
   -- as many delays as sinks
   own_sum : own ≡ 2 * sum_to (λ k. get_or delays k 0) (length xs)
   own_sum = o.sums ∙ ap (λ (m : ℕ). 2 * sum_to (λ k. get_or delays k 0) m) (sym sound.sinks.delayed)

@@ -9,12 +9,13 @@ use Rattle.lists.proofs.Grow.{sum_same}
 use Rattle.zero_skew.specs.Plane.{Sinks}
 use Rattle.measures.specs.Boxes.{diam_of}
 use Rattle.plane.proofs.Covering.{covers_diam}
+use Rattle.measures.specs.declared.boxes.Box.{Box}
 use Rattle.orders.specs.Nodes.{d, below, total}
 use Rattle.orders.specs.Table.{box_at}
 use Rattle.orders.specs.Arrays.{Fairs, AllNodes}
 use Rattle.orders.proofs.Theorem4.{not_cut}
 
-module _ {s : Sinks} {js bs ds ps : List ℕ} (m : AllNodes s js bs ds ps) where
+module _ {s : Sinks} {js : List ℕ} {bs : List Box} {ds ps : List ℕ} (m : AllNodes s js bs ds ps) where
   abbrev n : ℕ
   n = s.n
 

@@ -12,7 +12,7 @@ use lib.Seq.{get_or-set_same, get_or-set_other}
 use Rattle.lists.specs.Grow.{sum_to}
 use Rattle.lists.proofs.Grow.{each_more, sum_same, sum_more}
 use Rattle.zero_skew.specs.Plane.{Sinks}
-use Rattle.measures.specs.Boxes.{hull_of, diam_of, InOrder, Fair}
+use Rattle.measures.specs.Boxes.{blank, hull_of, diam_of, InOrder, Fair}
 use Rattle.plane.specs.Sinks.{sinks_at}
 use Rattle.measures.specs.Covers.{Covers}
 use Rattle.measures.proofs.Fairness.{fair-diam, fair-hull}
@@ -21,9 +21,9 @@ use Rattle.measures.specs.declared.boxes.Box.{Box}
 use Rattle.orders.specs.Joins.{left, right}
 use Rattle.orders.specs.Sound.{Ordered, Sound}
 use Rattle.orders.specs.Nodes.{node, below}
-use Rattle.orders.specs.Table.{box_at, Puts, Sinked}
+use Rattle.orders.specs.Table.{box_at, Sinked}
 use Rattle.orders.specs.Arrays.{Boxes, NodeRoom, PutsOwn, Up, PutsJoin, PutsJoins, AllNodes}
-use Rattle.orders.proofs.Boxing.{puts_each}
+use Rattle.orders.proofs.Boxing.{put_here, put_before}
 use Rattle.orders.proofs.Parents.{parents_more, parents_done}
 use Rattle.orders.proofs.Orders.{sinks_some, below_sink, below_join}
 
@@ -40,7 +40,7 @@ own_more {delays} {k} {sum} {d} {ds} room l e w =
       low = omega (arith, w.low);
     }
 
-pub up_begin : {xs ys : List ℤ} {delays js bs ds ps : List ℕ} {sum : ℕ} → length xs ≡ length delays → NodeRoom (length xs) bs ds ps → PutsOwn delays (length delays) sum ds → Sinked xs ys delays (length xs) bs → Up (length xs) js 0 bs ds ps
+pub up_begin : {xs ys : List ℤ} {delays js : List ℕ} {bs : List Box} {ds ps : List ℕ} {sum : ℕ} → length xs ≡ length delays → NodeRoom (length xs) bs ds ps → PutsOwn delays (length delays) sum ds → Sinked xs ys delays (length xs) bs → Up (length xs) js 0 bs ds ps
 up_begin {xs} {ys} {delays} {js} {bs} {ds} {ps} {sum} e room own w =
     record {
       room = room;
@@ -54,38 +54,41 @@ up_begin {xs} {ys} {delays} {js} {bs} {ds} {ps} {sum} e room own w =
 hull_same : {a b c d : Box} → a ≡ c → b ≡ d → hull_of a b ≡ hull_of c d
 hull_same {a} {b} {c} {d} p q = ap (λ (x : Box). hull_of x b) p ∙ ap (hull_of c) q
 
-module _ {n : ℕ} {js : List ℕ} (o : Ordered n js) {i : ℕ} (h : i < n - 1) {bs ds ps : List ℕ} (w : Up n js i bs ds ps) where
+module _ {n : ℕ} {js : List ℕ} (o : Ordered n js) {i : ℕ} (h : i < n - 1) {bs : List Box} {ds ps : List ℕ} (w : Up n js i bs ds ps) where
   abbrev new : Box
   new = hull_of (box_at bs (left js i)) (box_at bs (right js i))
 
   new_fair : Fair new
   new_fair = fair-hull (w.fair (left js i) (o.valid.low_left i h)) (w.fair (right js i) (o.valid.low_right i h))
 
-  module _ {bs' : List ℕ} (p : Puts (n + i) new bs bs') where
+  module _ {bs' : List Box} (p : bs' ≡ set bs (n + i) new) where
+    here : box_at bs' (n + i) ≡ new
+    here = put_here bs (n + i) new p (omega (arith, w.room.boxes))
+
     hulls_more : (j : ℕ) → j < i + 1 → box_at bs' (n + j) ≡ hull_of (box_at bs' (left js j)) (box_at bs' (right js j))
     hulls_more j l = go (eqb j i) refl
       where
         kept : (m : ℕ) → m ≤ i → m < n - 1 → hull_of (box_at bs (left js m)) (box_at bs (right js m)) ≡ hull_of (box_at bs' (left js m)) (box_at bs' (right js m))
         kept m a b =
             sym (hull_same
-            (p.before (left js m) (omega (arith, o.valid.low_left m b)))
-            (p.before (right js m) (omega (arith, o.valid.low_right m b))))
+            (put_before bs (n + i) new p (left js m) (omega (arith, o.valid.low_left m b)))
+            (put_before bs (n + i) new p (right js m) (omega (arith, o.valid.low_right m b))))
 
         go : (t : Bool) → eqb j i ≡ t → box_at bs' (n + j) ≡ hull_of (box_at bs' (left js j)) (box_at bs' (right js j))
-        go true e = let q = eqb-true j i e in rw q (p.here ∙ kept i (omega arith) h)
+        go true e = let q = eqb-true j i e in rw q (here ∙ kept i (omega arith) h)
         go false e =
             let q : j < i = omega (arith, eqb-false j i e) in
-            p.before (n + j) (omega arith) ∙ w.hulls j q ∙ kept j (omega arith) (omega arith)
+            put_before bs (n + i) new p (n + j) (omega arith) ∙ w.hulls j q ∙ kept j (omega arith) (omega arith)
 
-    up_more : length bs' ≡ length bs → (d : ℕ) → d ≡ diam_of new → Up n js (i + 1) bs' (set ds (n + i) d) (set (set ps (left js i) (n + i)) (right js i) (n + i))
-    up_more l d e =
+    up_more : (d : ℕ) → d ≡ diam_of new → Up n js (i + 1) bs' (set ds (n + i) d) (set (set ps (left js i) (n + i)) (right js i) (n + i))
+    up_more d e =
         let r = w.room in
         let lo = o.valid.low_left i h in
         let hi = o.valid.low_right i h in
         record {
-          room = record { boxes = omega (arith, r.boxes); diameters = simp length-set r.diameters; parents = simp length-set r.parents };
-          fair = λ k g. puts_each (λ m b. Fair b) p w.fair new_fair k (omega arith);
-          sized = λ k g. each_more (λ (m : ℕ) (x : ℕ). x ≡ diam_of (box_at bs' m)) ds (n + i) d 0 (omega (arith, r.diameters)) (e ∙ ap diam_of (sym p.here)) (λ m u. w.sized m u ∙ ap diam_of (sym (p.before m u))) k (omega arith);
+          room = record { boxes = rw p (simp length-set r.boxes); diameters = simp length-set r.diameters; parents = simp length-set r.parents };
+          fair = λ k g. rw p (each_more (λ (m : ℕ) (b : Box). Fair b) bs (n + i) new blank (omega (arith, r.boxes)) new_fair w.fair k (omega arith));
+          sized = λ k g. each_more (λ (m : ℕ) (x : ℕ). x ≡ diam_of (box_at bs' m)) ds (n + i) d 0 (omega (arith, r.diameters)) (e ∙ ap diam_of (sym here)) (λ m u. w.sized m u ∙ ap diam_of (sym (put_before bs (n + i) new p m u))) k (omega arith);
           hulls = hulls_more;
           named = λ j g.
               parents_more n js o (set ps (left js i) (n + i)) (2 * i + 1) (right js i) (n + i) (omega arith) refl (simp length-set (omega (arith, r.parents))) (omega arith)
@@ -101,22 +104,22 @@ module _ {n : ℕ} {js : List ℕ} (o : Ordered n js) {i : ℕ} (h : i < n - 1) 
       let f : Fair c = subst Fair (sym (is_new p q r)) new_fair in
       (f.u_up, f.v_up)
 
-  pub puts_join : {a b : ℕ} {c : Box} {d : ℕ} {bs' ps' : List ℕ} → a ≡ left js i → b ≡ right js i → c ≡ hull_of (box_at bs a) (box_at bs b) → d ≡ diam_of c
-      → Puts (n + i) c bs bs' → length bs' ≡ length bs → ps' ≡ set (set ps a (n + i)) b (n + i) → PutsJoin n js i bs ds d bs' (set ds (n + i) d) ps'
-  puts_join {a} {b} {c} {d} {bs'} {ps'} p q r e put l t =
+  pub puts_join : {a b : ℕ} {c : Box} {d : ℕ} {bs' : List Box} {ps' : List ℕ} → a ≡ left js i → b ≡ right js i → c ≡ hull_of (box_at bs a) (box_at bs b) → d ≡ diam_of c
+      → bs' ≡ set bs (n + i) c → ps' ≡ set (set ps a (n + i)) b (n + i) → PutsJoin n js i bs ds d bs' (set ds (n + i) d) ps'
+  puts_join {a} {b} {c} {d} {bs'} {ps'} p q r e put t =
       let z : c ≡ new = is_new p q r in
-      let put_new : Puts (n + i) new bs bs' = subst (λ (x : Box). Puts (n + i) x bs bs') z put in
+      let put_new : bs' ≡ set bs (n + i) new = put ∙ ap (set bs (n + i)) z in
       record {
-        up = rw (t, p, q) (up_more put_new l d (e ∙ ap diam_of z));
-        before = put.before;
+        up = rw (t, p, q) (up_more put_new d (e ∙ ap diam_of z));
+        before = put_before bs (n + i) c put;
         adds = refl;
       }
 
 -- ---- all joins
-pub joins_begin : {n : ℕ} {js bs ds ps : List ℕ} → Up n js 0 bs ds ps → PutsJoins n js 0 bs 0 bs ds ps
+pub joins_begin : {n : ℕ} {js : List ℕ} {bs : List Box} {ds ps : List ℕ} → Up n js 0 bs ds ps → PutsJoins n js 0 bs 0 bs ds ps
 joins_begin w = record { up = w; sinks = λ k h. refl; sums = refl; low = omega arith }
 
-pub joins_more : {n : ℕ} {js : List ℕ} {i : ℕ} {old : List ℕ} {sum : ℕ} {bs ds ps : List ℕ} {d : ℕ} {bs' ds' ps' : List ℕ}
+pub joins_more : {n : ℕ} {js : List ℕ} {i : ℕ} {old : List Box} {sum : ℕ} {bs : List Box} {ds ps : List ℕ} {d : ℕ} {bs' : List Box} {ds' ps' : List ℕ}
     → i < n - 1 → PutsJoins n js i old sum bs ds ps → PutsJoin n js i bs ds d bs' ds' ps' → PutsJoins n js (i + 1) old (sum + d) bs' ds' ps'
 joins_more {n} {js} {i} {old} {sum} {bs} {ds} {ps} {d} {bs'} {ds'} {ps'} h w p =
     record {
@@ -132,7 +135,7 @@ joins_more {n} {js} {i} {old} {sum} {bs} {ds} {ps} {d} {bs'} {ds'} {ps'} h w p =
     same : sum_to (λ j. get_or ds' (n + j) 0) i ≡ sum_to (λ j. get_or ds (n + j) 0) i
     same = sum_same (λ j. get_or ds' (n + j) 0) (λ j. get_or ds (n + j) 0) i (λ j l. rw p.adds (get_or-set_other ds (n + i) (n + j) d 0 (λ e. omega arith)))
 
-module _ (s : Sinks) (js : List ℕ) (o : Ordered s.n js) (bs : List ℕ)
+module _ (s : Sinks) (js : List ℕ) (o : Ordered s.n js) (bs : List Box)
     (sinks : (k : ℕ) → k < s.n → Covers s (k ∷ []) (box_at bs k))
     (hulls : (j : ℕ) → j < s.n - 1 → box_at bs (s.n + j) ≡ hull_of (box_at bs (left js j)) (box_at bs (right js j))) where
   -- the boxes of the sinks and of the first m joins are those of the sinks below them
@@ -150,7 +153,7 @@ module _ (s : Sinks) (js : List ℕ) (o : Ordered s.n js) (bs : List ℕ)
           (sinks_some (node s.n js (left js m))) (sinks_some (node s.n js (right js m)))
           (all (left js m) (o.valid.low_left m (omega arith))) (all (right js m) (o.valid.low_right m (omega arith)))))
 
-pub joins_made : {xs ys : List ℤ} {delays js old : List ℕ} {sum : ℕ} {bs ds ps : List ℕ} → Sound xs ys delays js → Sinked xs ys delays (length xs) old → PutsJoins (length xs) js (length xs - 1) old sum bs ds ps → AllNodes (sinks_at xs ys delays) js bs ds ps
+pub joins_made : {xs ys : List ℤ} {delays js : List ℕ} {old : List Box} {sum : ℕ} {bs : List Box} {ds ps : List ℕ} → Sound xs ys delays js → Sinked xs ys delays (length xs) old → PutsJoins (length xs) js (length xs - 1) old sum bs ds ps → AllNodes (sinks_at xs ys delays) js bs ds ps
 joins_made {xs} {ys} {delays} {js} {old} {sum} {bs} {ds} {ps} sound put w =
     let n = length xs in
     let o = sound.joins in

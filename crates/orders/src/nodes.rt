@@ -6,6 +6,7 @@ ghost use Rattle.orders.specs.Arrays.{Parents, NodeRoom, OwnRoom, PutsOwn, Up, P
 ghost use Rattle.orders.specs.Nodes.{total};
 
 use crate::{joins, table};
+use measures::boxes::Box;
 use measures::{boxes, measure};
 
 // A sum that fits a length again.
@@ -43,23 +44,23 @@ fn put_parent(ps: &mut [u16], a: usize, b: usize, m: usize)
 }
 
 // Join i: the box and the diameter of its node, and whose parent it is.
-fn put_join(js: &[u16], n: usize, i: usize, bs: &mut [u32], ds: &mut [u32], ps: &mut [u16]) -> u32
+fn put_join(js: &[u16], n: usize, i: usize, bs: &mut [Box], ds: &mut [u32], ps: &mut [u16]) -> u32
     requires { Ordered n js.now × (i < n - 1) × Up n js.now i bs.old ds.old ps.old }
     ensures { PutsJoin n js.now i bs.old ds.old result bs.new ds.new ps.new }
 {
     let a = joins::entry(js, 2 * i);
     let b = joins::entry(js, 2 * i + 1);
     let m = n + i;
-    let c = table::union_at(bs, a, b);
+    let c = boxes::hull(bs[a], bs[b]);
     let d = boxes::breadth(c);
-    table::put_box(bs, m, c);
+    bs[m] = c;
     ds[m] = d;
     put_parent(ps, a, b, m);
     d
 }
 
 // All joins, bottom-up, and the sum of their diameters.
-fn put_joins(js: &[u16], n: usize, bs: &mut [u32], ds: &mut [u32], ps: &mut [u16]) -> u64
+fn put_joins(js: &[u16], n: usize, bs: &mut [Box], ds: &mut [u32], ps: &mut [u16]) -> u64
     requires { Ordered n js.now × Up n js.now 0 bs.old ds.old ps.old }
     ensures { PutsJoins n js.now (n - 1) bs.old result bs.new ds.new ps.new }
 {
@@ -79,7 +80,7 @@ pub fn put_nodes(
     ys: &[i32],
     delays: &[u32],
     js: &[u16],
-    bs: &mut [u32],
+    bs: &mut [Box],
     ds: &mut [u32],
     ps: &mut [u16],
 ) -> u32

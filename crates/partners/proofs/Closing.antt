@@ -12,6 +12,7 @@ use Rattle.lists.proofs.Tests.{or_lt}
 use Rattle.partners.specs.declared.pair.Pair.{Pair}
 use Rattle.partners.specs.Closest.{is_of, without, after}
 use Rattle.partners.specs.Rule.{In}
+use Rattle.measures.specs.declared.boxes.Box.{Box}
 use Rattle.orders.specs.Table.{box_at}
 use Rattle.partners.specs.Live.{All, Rising}
 use Rattle.partners.specs.Live.All.{none, also}
@@ -23,7 +24,7 @@ use Rattle.partners.proofs.Moving.{skip_before, skip_after, skip_under, skip_suc
 use Rattle.partners.proofs.Entering.{Fits, fits_right, right_fits}
 
 -- ---- the rows that stay are right beside the nodes that stay
-pub right_close : {bs live live2 : List ℕ} {m : ℕ} {row : ℕ → Row} (a b : ℕ) → Right bs live m row → length live2 + 2 ≡ length live → ((t : ℕ) → t < length live2 → get_or live2 t 0 ≡ get_or live (skip b (skip a t)) 0) → Right bs live2 m (λ t. row (skip b (skip a t)))
+pub right_close : {bs : List Box} {live live2 : List ℕ} {m : ℕ} {row : ℕ → Row} (a b : ℕ) → Right bs live m row → length live2 + 2 ≡ length live → ((t : ℕ) → t < length live2 → get_or live2 t 0 ≡ get_or live (skip b (skip a t)) 0) → Right bs live2 m (λ t. row (skip b (skip a t)))
 right_close {bs} {live} {live2} {m} {row} a b v e f = fits_right moved
   where
     up : (s t : ℕ) → s < t → skip b (skip a s) < skip b (skip a t)

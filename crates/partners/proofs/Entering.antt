@@ -18,13 +18,13 @@ use Rattle.partners.specs.Rows.{Row, row_at, span, given, held, Sets, NewBox, Ri
 use Rattle.partners.proofs.Members.{all_at}
 
 -- ---- one row at a time: r is right beside the live node at s
-pub record Fits (bs live : List ℕ) (m s : ℕ) (r : Row) : Type 0 where
+pub record Fits (bs : List Box) (live : List ℕ) (m s : ℕ) (r : Row) : Type 0 where
   pub box : r.box ≡ box_at bs (get_or live s 0)
   pub near : (t : ℕ) → s < t → t < length live → r.far ≤ reach bs (get_or live s 0) (get_or live t 0)
   pub first : (t : ℕ) → s < t → t < length live → r.far ≡ reach bs (get_or live s 0) (get_or live t 0) → r.at ≤ get_or live t 0
   pub named : suc s < length live → (r.far ≡ reach bs (get_or live s 0) r.at) × (get_or live s 0 < r.at) × (r.at < m)
 
-module _ {bs live : List ℕ} {m : ℕ} {row : ℕ → Row} where
+module _ {bs : List Box} {live : List ℕ} {m : ℕ} {row : ℕ → Row} where
   pub right_fits : Right bs live m row → (s : ℕ) → s < length live → Fits bs live m s (row s)
   right_fits v s h = record { box = v.box s h; near = v.near s; first = v.first s; named = v.named s }
 
@@ -37,15 +37,15 @@ module _ {bs live : List ℕ} {m : ℕ} {row : ℕ → Row} where
         named = λ s h. (f s (omega arith)).named h;
       }
 
-pub fits_as : {bs live : List ℕ} {m s : ℕ} {q r : Row} → q ≡ r → Fits bs live m s r → Fits bs live m s q
+pub fits_as : {bs : List Box} {live : List ℕ} {m s : ℕ} {q r : Row} → q ≡ r → Fits bs live m s r → Fits bs live m s q
 fits_as {bs} {live} {m} {s} e h = subst (λ (o : Row). Fits bs live m s o) (sym e) h
 
 -- ---- with the same rows, or with boxes that are the same below m
-reach_as : (bs bs' : List ℕ) {m : ℕ} → ((k : ℕ) → k < m → box_at bs' k ≡ box_at bs k) → (x y : ℕ) → x < m → y < m → reach bs' x y ≡ reach bs x y
+reach_as : (bs bs' : List Box) {m : ℕ} → ((k : ℕ) → k < m → box_at bs' k ≡ box_at bs k) → (x y : ℕ) → x < m → y < m → reach bs' x y ≡ reach bs x y
 unfolding reach
 reach_as bs bs' f x y h g = ap₂ (λ (o q : Box). diam_of (hull_of o q)) (f x h) (f y g)
 
-pub right_same : {bs bs' live : List ℕ} {m : ℕ} {row : ℕ → Row} → Right bs live m row → Below m live → ((k : ℕ) → k < m → box_at bs' k ≡ box_at bs k) → Right bs' live m row
+pub right_same : {bs bs' : List Box} {live : List ℕ} {m : ℕ} {row : ℕ → Row} → Right bs live m row → Below m live → ((k : ℕ) → k < m → box_at bs' k ≡ box_at bs k) → Right bs' live m row
 right_same {bs} {bs'} {live} {m} {row} v b f =
     record {
       box = λ t h. v.box t h ∙ sym (f (get_or live t 0) (node t h));
@@ -60,16 +60,16 @@ right_same {bs} {bs'} {live} {m} {row} v b f =
     apart : (s t : ℕ) → s < length live → t < length live → reach bs' (get_or live s 0) (get_or live t 0) ≡ reach bs (get_or live s 0) (get_or live t 0)
     apart s t h l = reach_as bs bs' f (get_or live s 0) (get_or live t 0) (node s h) (node t l)
 
-pub right_none : {bs : List ℕ} {m : ℕ} (row : ℕ → Row) → Right bs [] m row
+pub right_none : {bs : List Box} {m : ℕ} (row : ℕ → Row) → Right bs [] m row
 right_none row = fits_right (λ s h. (let z : ⊥ = omega arith in absurd z))
 
 -- ---- the union of a row with another
-pub span_is : (bs : List ℕ) (r : Row) (b : Box) (x y : ℕ) → r.box ≡ box_at bs x → b ≡ box_at bs y → span r b ≡ reach bs x y
+pub span_is : (bs : List Box) (r : Row) (b : Box) (x y : ℕ) → r.box ≡ box_at bs x → b ≡ box_at bs y → span r b ≡ reach bs x y
 unfolding span reach
 span_is bs r b x y p q = ap₂ (λ (o c : Box). diam_of (hull_of o c)) p q
 
 -- ---- node m enters after the others
-module _ (bs live : List ℕ) (m : ℕ) where
+module _ (bs : List Box) (live : List ℕ) (m : ℕ) where
   old_at : (t : ℕ) → t < length live → get_or (live ++ (m ∷ [])) t 0 ≡ get_or live t 0
   old_at t h = get_or-append live (m ∷ []) 0 t h
 
@@ -112,7 +112,7 @@ module _ (bs live : List ℕ) (m : ℕ) where
     last_fits : suc s ≡ length live → Fits bs (live ++ (m ∷ [])) (m + 1) s (given r m (span r b))
     last_fits e = given_fits (λ t g j. (let z : ⊥ = omega arith in absurd z))
 
-pub right_enter : {bs live : List ℕ} {m : ℕ} {row row' : ℕ → Row} (b : Box) (k : ℕ) → b ≡ box_at bs m → k ≡ length live → Right bs live m row → Below m live → Entered k b m row row' → Right bs (live ++ (m ∷ [])) (m + 1) row'
+pub right_enter : {bs : List Box} {live : List ℕ} {m : ℕ} {row row' : ℕ → Row} (b : Box) (k : ℕ) → b ≡ box_at bs m → k ≡ length live → Right bs live m row → Below m live → Entered k b m row row' → Right bs (live ++ (m ∷ [])) (m + 1) row'
 right_enter {bs} {live} {m} {row} {row'} b k is e v low w = fits_right (λ s h. ⊎_elim (λ p. inside s p) (λ p. outside s h (omega arith)) (or_lt s (length live)))
   where
     inside : (s : ℕ) → s < length live → Fits bs (live ++ (m ∷ [])) (m + 1) s (row' s)

@@ -11,6 +11,7 @@ use lib.ListN.{length, get_or}
 use Rattle.lists.proofs.First.{first_end, first_hit, first_none}
 use Rattle.lists.proofs.Tests.{or_lt}
 use Rattle.measures.specs.Boxes.{InOrder}
+use Rattle.measures.specs.declared.boxes.Box.{Box}
 use Rattle.partners.specs.declared.pair.Near.{Near}
 use Rattle.partners.specs.Closest.{pair, best}
 use Rattle.partners.specs.Rule.{In, Leads, Chosen}
@@ -42,11 +43,11 @@ rising_from {ls} s t r h l =
     (or_lt s t)
 
 -- the box of a row has its ends in order, as those of all nodes have
-pub row_in_order : {bs live : List ℕ} {m : ℕ} {row : ℕ → Row} (t : ℕ) → Upright m bs → Below m live → Right bs live m row → t < length live → InOrder (row t).box
+pub row_in_order : {bs : List Box} {live : List ℕ} {m : ℕ} {row : ℕ → Row} (t : ℕ) → Upright m bs → Below m live → Right bs live m row → t < length live → InOrder (row t).box
 row_in_order {live = live} t u low v h = subst InOrder (sym (v.box t h)) (u (get_or live t 0) (all_at t low h))
 
 -- ---- the pair to join
-module _ {bs live : List ℕ} {rows : Rows} {m a : ℕ} (r : Rising live) (v : Right bs live m (row_at rows)) (k : ℕ) (e : k ≡ length live) (w : Lowest rows (k - 1) a) (b : ℕ) (h : b < k) (n : get_or live b 0 ≡ (row_at rows a).at) where
+module _ {bs : List Box} {live : List ℕ} {rows : Rows} {m a : ℕ} (r : Rising live) (v : Right bs live m (row_at rows)) (k : ℕ) (e : k ≡ length live) (w : Lowest rows (k - 1) a) (b : ℕ) (h : b < k) (n : get_or live b 0 ≡ (row_at rows a).at) where
   far_is : (row_at rows a).far ≡ reach bs (get_or live a 0) (get_or live b 0)
   far_is = rw n (v.named a (omega (arith, w.one))).0
 
@@ -82,7 +83,7 @@ module _ {bs live : List ℕ} {rows : Rows} {m a : ℕ} (r : Rising live) (v : R
           }
 
 -- ---- a row with the first of the nearest is right
-module _ {bs live : List ℕ} {rows : Rows} {m a : ℕ} {r : Near} (up : Rising live) (v : Right bs live m (row_at rows)) (low : Below m live) (w : NearestAfter rows live a r) where
+module _ {bs : List Box} {live : List ℕ} {rows : Rows} {m a : ℕ} {r : Near} (up : Rising live) (v : Right bs live m (row_at rows)) (low : Below m live) (w : NearestAfter rows live a r) where
   span_at : (t : ℕ) → t < length live → span (row_at rows a) (row_at rows t).box ≡ reach bs (get_or live a 0) (get_or live t 0)
   span_at t h = span_is bs (row_at rows a) (row_at rows t).box (get_or live a 0) (get_or live t 0) (v.box a (omega (arith, w.later, w.inside))) (v.box t h)
 

@@ -115,7 +115,7 @@ pub record NearestAfter (rows : Rows) (live : List ℕ) (a : ℕ) (r : Near) : T
 
 -- what is kept beside each of the live nodes is right: its box, and a partner that is no farther than any later live node, and no later than one as far.
 -- The partner may be gone: then it is nearer than what is left.
-pub record Right (bs live : List ℕ) (m : ℕ) (row : ℕ → Row) : Type 0 where
+pub record Right (bs : List Box) (live : List ℕ) (m : ℕ) (row : ℕ → Row) : Type 0 where
   pub box : (t : ℕ) → t < length live → (row t).box ≡ box_at bs (get_or live t 0)
   pub near : (s t : ℕ) → s < t → t < length live → (row s).far ≤ reach bs (get_or live s 0) (get_or live t 0)
   pub first : (s t : ℕ) → s < t → t < length live → (row s).far ≡ reach bs (get_or live s 0) (get_or live t 0) → (row s).at ≤ get_or live t 0
@@ -126,7 +126,7 @@ abbrev pub place_of : List ℕ → ℕ → Option ℕ
 place_of live x = position (λ a. eqb a x) live
 
 -- live nodes beside which what is kept is right
-pub record Caching (bs live : List ℕ) (rows : Rows) : Type 0 where
+pub record Caching (bs : List Box) (live : List ℕ) (rows : Rows) : Type 0 where
   pub top : ℕ
   pub right : Right bs live top (row_at rows)
   pub rising : Rising live
@@ -141,7 +141,7 @@ abbrev pub pair_at : List ℕ → Choice → Pair
 pair_at live c = pair (get_or live c.row 0) (get_or live c.with 0)
 
 -- two places in turn, and what is kept is right as before
-pub record Picks (bs live : List ℕ) (rows : Rows) (r : Choice) (rows' : Rows) : Type 0 where
+pub record Picks (bs : List Box) (live : List ℕ) (rows : Rows) (r : Choice) (rows' : Rows) : Type 0 where
   pub up : r.row < r.with
   pub inside : r.with < length live
   pub right : (m : ℕ) → Below m live → Right bs live m (row_at rows) → Right bs live m (row_at rows')

@@ -7,6 +7,7 @@ ghost use Rattle.partners.specs.Rows.{pair_at, Caching, Picks};
 use crate::pair::Pair;
 use crate::rows::Rows;
 use crate::{live, lowest};
+use measures::boxes::Box;
 
 // A row, and where its partner stands among the live nodes.
 #[derive(Clone, Copy)]
@@ -17,7 +18,7 @@ pub struct Choice {
 
 // The leaf: the places of the best pair of live nodes, which come in rising order. A row whose partner is gone is looked through again only where it comes first:
 // what it keeps is nearer than what is left, so no other pair is passed over. The boxes by node number are not read: they are what the promise speaks of.
-pub fn nearest(live: &[usize], bs: &[u32], rows: &mut Rows) -> Choice
+pub fn nearest(live: &[usize], bs: &[Box], rows: &mut Rows) -> Choice
     requires { Caching bs.now live.now rows.old }
     ensures { (pair_at live.now result ≡ best (reach bs.now) live.now) × Picks bs.now live.now rows.old result rows.new }
 {

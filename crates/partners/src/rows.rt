@@ -23,12 +23,11 @@ pub struct Rows {
 impl Rows {
     // No row is kept yet.
     pub fn blank() -> Rows {
-        let none = measure::standing_for(0);
         Rows {
-            low_u: [none; 512],
-            high_u: [none; 512],
-            low_v: [none; 512],
-            high_v: [none; 512],
+            low_u: [measure::CORNER; 512],
+            high_u: [measure::CORNER; 512],
+            low_v: [measure::CORNER; 512],
+            high_v: [measure::CORNER; 512],
             far: [0; 512],
             partner: [0; 512],
             aside: [0; 512],

@@ -34,7 +34,7 @@ pub loop-i-preserved : goal.loop-i-preserved
 loop-i-preserved c =
     let o = c.requires in
     let l = c.loop-i in
-    going_turn _ l.invariant (omega arith) (omega (arith, l.invariant.size, o.room)) c.round.ensures
+    going_turn _ l.invariant (omega arith) (omega (arith, l.invariant.size, o.room)) (omega arith) c.round.ensures
 
 pub returns : goal.returns
 returns c = going_end c.loop-i.invariant (omega arith) c.requires.room

@@ -1,4 +1,4 @@
-use mathlib.Core.Path.{◌∙◌}
+use mathlib.Core.Path.{refl, ◌∙◌}
 use native.Mathlib.Omega.{arith}
 use Rattle.nearest.proofs.Going.{open_caching, open_low, open_upright, round_of}
 use Rattle.nearest.proofs.order.round.Goals as goal
@@ -17,7 +17,7 @@ close-requires c =
     let o = c.requires in
     let w = c.nearest-c.ensures in
     let e = c.pair_at-p.ensures ∙ w.0 in
-    (omega (arith, o.packed.count, o.few), w.1.up, w.1.inside, omega (arith, o.few, o.turn), open_upright c.pair_at-p.result c.box_at.result o e c.put_hull.ensures c.box_at.ensures)
+    (omega (arith, o.packed.count, o.few), w.1.up, w.1.inside, omega (arith, o.few, o.turn), open_upright c.pair_at-p.result _ o e c.put_hull.ensures refl)
 
 pub write_pair-requires : goal.write_pair-requires
 write_pair-requires c =
@@ -29,4 +29,4 @@ pub returns : goal.returns
 returns c =
     let p = c.pair_at-p in
     let w = c.nearest-c in
-    round_of w.result c.requires w.ensures.1 c.box_at.ensures c.close.ensures p.result w.ensures.0 p.ensures c.close.auto.live c.put_hull.ensures c.write_pair.ensures
+    round_of w.result c.requires w.ensures.1 refl c.close.ensures p.result w.ensures.0 p.ensures c.close.auto.live c.put_hull.ensures c.write_pair.ensures

@@ -4,7 +4,7 @@ use Rattle.orders.proofs.Summed.{sinks-room, two_fit, some_two, root_fit, own_ro
 use Rattle.orders.proofs.nodes.put_nodes.Goals as goal
 
 pub put_sinks-requires : goal.put_sinks-requires
-put_sinks-requires c = (c.requires.0.sinks, sinks-room c.requires.1)
+put_sinks-requires c = (c.requires.0.sinks, sinks-room c.requires.0.joins.some c.requires.1)
 
 pub put_own-own-requires : goal.put_own-own-requires
 put_own-own-requires c = own_room c.requires.0 c.requires.1
