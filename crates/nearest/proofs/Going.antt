@@ -25,7 +25,8 @@ use Rattle.nearest.specs.Nearest.{below, union, chosen, joins, alone, order}
 use Rattle.orders.specs.Table.{box_at, Sinked}
 use Rattle.partners.specs.Boxes.{reach}
 use Rattle.partners.specs.Live.{Packed}
-use Rattle.partners.specs.Rows.{row_at, Roomy, skip_both, Right, Caching, pair_at, Picks, Closed, Entered}
+use Rattle.partners.specs.declared.rows.Rows.{Rows}
+use Rattle.partners.specs.Rows.{row_at, skip_both, Right, Caching, pair_at, Picks, Closed, Entered}
 use Rattle.nearest.specs.Rounds.{Open, Made, Round}
 use Rattle.partners.proofs.Members.{all_without, in_all}
 use Rattle.partners.proofs.Pairs.{Within, best_same}
@@ -77,7 +78,7 @@ pub held_begin : {xs ys : List ℤ} {delays : List ℕ} (n : ℕ) {bs : List Box
 held_begin n v = record { full = λ k h. rw (alone_at n k h) (omega arith); covers = λ k h. rw (alone_at n k h) (v.covers k h) }
 
 -- ---- after i joins of n sinks
-pub record Going (s : Sinks) (n i : ℕ) (bs : List Box) (live rows js₀ js : List ℕ) : Type 0 where
+pub record Going (s : Sinks) (n i : ℕ) (bs : List Box) (live : List ℕ) (rows : Rows) (js₀ js : List ℕ) : Type 0 where
   pub sets : List (List ℕ)
   pub running : Running n i sets live
   pub held : Held s (n + i) sets bs
@@ -87,7 +88,7 @@ pub record Going (s : Sinks) (n i : ℕ) (bs : List Box) (live rows js₀ js : L
   pub size : length js ≡ length js₀
 
 -- at first, with all sinks at the front of a list
-pub going_begin : {xs ys : List ℤ} {delays : List ℕ} (n : ℕ) {bs : List Box} {live rows : List ℕ} (rest js : List ℕ) → Sinked xs ys delays n bs → live ≡ up_to n → Right bs (up_to n) n (row_at rows) → Going (sinks_at xs ys delays) n 0 bs (take (n - 0) (live ++ rest)) rows js js
+pub going_begin : {xs ys : List ℤ} {delays : List ℕ} (n : ℕ) {bs : List Box} {live : List ℕ} {rows : Rows} (rest js : List ℕ) → Sinked xs ys delays n bs → live ≡ up_to n → Right bs (up_to n) n (row_at rows) → Going (sinks_at xs ys delays) n 0 bs (take (n - 0) (live ++ rest)) rows js js
 unfolding order
 going_begin n {live = live} rest js v b m =
     let e : n + 0 ≡ n = omega arith in
@@ -96,11 +97,11 @@ going_begin n {live = live} rest js v b m =
     record { sets = alone n; running = rw a (running_begin n); held = rw e (held_begin n v); right = rw (e, a) m; is = rw (k, a); rest = refl; size = refl }
 
 -- the code chooses the definition's pair
-pub pick_is : {s : Sinks} {n i : ℕ} {bs : List Box} {live rows js₀ js : List ℕ} (v : Going s n i bs live rows js₀ js) → best (reach bs) live ≡ chosen s v.sets live
+pub pick_is : {s : Sinks} {n i : ℕ} {bs : List Box} {live : List ℕ} {rows : Rows} {js₀ js : List ℕ} (v : Going s n i bs live rows js₀ js) → best (reach bs) live ≡ chosen s v.sets live
 pick_is {s} {n} {i} {bs} v = best_same (reach bs) (union s v.sets) (n + i) (held_same v.held) v.running.packed.low
 
 -- there is a pair to find: what the leaf asks
-pub open_caching : {n i : ℕ} {bs : List Box} {live rows js : List ℕ} → Open n i bs live rows js → Caching bs live rows
+pub open_caching : {n i : ℕ} {bs : List Box} {live : List ℕ} {rows : Rows} {js : List ℕ} → Open n i bs live rows js → Caching bs live rows
 open_caching {n} {i} o =
     let p = o.packed in
     record {
@@ -112,27 +113,26 @@ open_caching {n} {i} o =
       few_nodes = omega (arith, o.turn, o.few);
       two = omega (arith, p.count, o.turn);
       few = omega (arith, p.count, o.few);
-      roomy = o.roomy;
     }
 
 -- its two nodes are lower than the one that they make
 within_low : {n i : ℕ} {live : List ℕ} {p : Pair} → Packed n i live → Within live p → (p.low < n + i) × (p.high < n + i)
 within_low v w = (in_all w.low_in v.low, in_all w.high_in v.low)
 
-pub open_low : {n i : ℕ} {bs : List Box} {live rows js : List ℕ} (p : Pair) → Open n i bs live rows js → p ≡ best (reach bs) live → (p.low < n + i) × (p.high < n + i)
+pub open_low : {n i : ℕ} {bs : List Box} {live : List ℕ} {rows : Rows} {js : List ℕ} (p : Pair) → Open n i bs live rows js → p ≡ best (reach bs) live → (p.low < n + i) × (p.high < n + i)
 open_low {bs = bs} p o e = rw e (within_low o.packed (packed_within (reach bs) o.packed o.turn))
 
 -- and its hull has its ends in order
-pub open_upright : {n i : ℕ} {bs bs' : List Box} {live rows js : List ℕ} (p : Pair) (b : Box) → Open n i bs live rows js → p ≡ best (reach bs) live → bs' ≡ set bs (n + i) (hull_of (box_at bs p.low) (box_at bs p.high)) → b ≡ box_at bs' (n + i) → InOrder b
+pub open_upright : {n i : ℕ} {bs bs' : List Box} {live : List ℕ} {rows : Rows} {js : List ℕ} (p : Pair) (b : Box) → Open n i bs live rows js → p ≡ best (reach bs) live → bs' ≡ set bs (n + i) (hull_of (box_at bs p.low) (box_at bs p.high)) → b ≡ box_at bs' (n + i) → InOrder b
 open_upright {n} {i} {bs} p b o e w is = subst InOrder (sym (is ∙ put_here bs (n + i) (hull_of (box_at bs p.low) (box_at bs p.high)) w o.box-room)) (hull_in_order (box_at bs p.low) (box_at bs p.high) (o.upright p.high (open_low p o e).1))
 
 -- ---- after a join: the two left, and the new node entered after the others
-module _ {n i : ℕ} {bs : List Box} {live rows rows1 js : List ℕ} (c : Choice) (o : Open n i bs live rows js) (k : Picks bs live rows c rows1) where
+module _ {n i : ℕ} {bs : List Box} {live : List ℕ} {rows rows1 : Rows} {js : List ℕ} (c : Choice) (o : Open n i bs live rows js) (k : Picks bs live rows c rows1) where
   -- which nodes stay
   stay : ((t : ℕ) → t < length (without (pair_at live c) live) → get_or (without (pair_at live c) live) t 0 ≡ get_or live (skip_both c t) 0) × (length (without (pair_at live c) live) + 2 ≡ length live)
   stay = without_at (pair_at live c) c.row c.with o.packed.rising k.up k.inside refl refl
 
-  module _ {bs' : List Box} {live' rows2 : List ℕ} {b : Box} (is : b ≡ box_at bs' (n + i)) (d : Closed c b (n + i) live live' rows1 rows2) where
+  module _ {bs' : List Box} {live' : List ℕ} {rows2 : Rows} {b : Box} (is : b ≡ box_at bs' (n + i)) (d : Closed c b (n + i) live live' rows1 rows2) where
     -- what is kept is right again
     right_round : bs' ≡ set bs (n + i) (hull_of (box_at bs (pair_at live c).low) (box_at bs (pair_at live c).high)) → Right bs' (after (pair_at live c) (n + i) live) (n + i + 1) (row_at rows2)
     right_round u =
@@ -146,7 +146,7 @@ module _ {n i : ℕ} {bs : List Box} {live rows rows1 js : List ℕ} (c : Choice
         record { made = rw y at a; right = rw y at (right_round (rw e at u)); writes = rw (e ∙ y) at x }
 
 -- ---- the rows of the sinks, one at a time
-pub right_sink : {bs : List Box} (i : ℕ) (b : Box) (rows rows' : List ℕ) → Right bs (up_to i) i (row_at rows) → b ≡ box_at bs i → Entered i b i (row_at rows) (row_at rows') → Right bs (up_to (i + 1)) (i + 1) (row_at rows')
+pub right_sink : {bs : List Box} (i : ℕ) (b : Box) (rows rows' : Rows) → Right bs (up_to i) i (row_at rows) → b ≡ box_at bs i → Entered i b i (row_at rows) (row_at rows') → Right bs (up_to (i + 1)) (i + 1) (row_at rows')
 right_sink i b rows rows' v is w =
     let z : i + 0 ≡ i = omega arith in
     rw (up_to_more i) (right_enter b i is (sym (length-up_to i)) v (rw z at (packed_begin i).low) w)
@@ -160,7 +160,7 @@ two_more l k a b h =
 next_live : (k : ℕ) (new live rest : List ℕ) → take k live ≡ new → length new ≡ k → take k (live ++ rest) ≡ new
 next_live k new live rest e h = ap (λ (l : List ℕ). take k (l ++ rest)) (sym (take-append-drop k live)) ∙ rw (e, append_assoc) (take_at new (drop k live ++ rest) k h)
 
-module _ {s : Sinks} {n i : ℕ} {bs bs' : List Box} {live live' rows rows' js₀ js js' : List ℕ} where
+module _ {s : Sinks} {n i : ℕ} {bs bs' : List Box} {live live' : List ℕ} {rows rows' : Rows} {js₀ js js' : List ℕ} where
   pub going_turn : (rest : List ℕ) → Going s n i bs live rows js₀ js → i + 1 < n → 2 * i + 1 < length js → n + i < length bs → Round n i bs bs' live live' rows' js js' → Going s n (i + 1) bs' (take (n - (i + 1)) (live' ++ rest)) rows' js₀ js'
   unfolding joins
   going_turn rest v h b r d =
@@ -193,10 +193,10 @@ module _ {s : Sinks} {n i : ℕ} {bs bs' : List Box} {live live' rows rows' js�
         size = rw d.writes (simp length-set v.size);
       }
 
-pub going_open : {s : Sinks} {n i : ℕ} {bs : List Box} {live rows js₀ js : List ℕ} → Going s n i bs live rows js₀ js → i + 1 < n → n ≤ 512 → 1023 ≤ length bs → Roomy rows → 2 * (n - 1) ≤ length js₀ → Open n i bs live rows js
-going_open v h f b l r = record { packed = v.running.packed; right = v.right; upright = λ k l. covers_in_order (v.held.covers k l); turn = h; few = f; box-room = omega arith; roomy = l; room = omega (arith, v.size) }
+pub going_open : {s : Sinks} {n i : ℕ} {bs : List Box} {live : List ℕ} {rows : Rows} {js₀ js : List ℕ} → Going s n i bs live rows js₀ js → i + 1 < n → n ≤ 512 → 1023 ≤ length bs → 2 * (n - 1) ≤ length js₀ → Open n i bs live rows js
+going_open v h f b r = record { packed = v.running.packed; right = v.right; upright = λ k l. covers_in_order (v.held.covers k l); turn = h; few = f; box-room = omega arith; room = omega (arith, v.size) }
 
-pub going_end : {s : Sinks} {n i : ℕ} {bs : List Box} {live rows js₀ js : List ℕ} → Going s n i bs live rows js₀ js → i ≡ n - 1 → 2 * (n - 1) ≤ length js₀ → js ≡ front (order s n) js₀
+pub going_end : {s : Sinks} {n i : ℕ} {bs : List Box} {live : List ℕ} {rows : Rows} {js₀ js : List ℕ} → Going s n i bs live rows js₀ js → i ≡ n - 1 → 2 * (n - 1) ≤ length js₀ → js ≡ front (order s n) js₀
 unfolding joins
 going_end {s} {n} {i} {js₀ = js₀} {js} v e r =
     let z : n - 1 - i ≡ 0 = omega arith in

@@ -13,6 +13,7 @@ use measures::boxes;
 use measures::boxes::Box;
 use orders::table;
 use partners::pair::Pair;
+use partners::rows::Rows;
 use partners::{best, live};
 use plane::refusal::Refusal;
 use plane::sinks;
@@ -36,7 +37,7 @@ fn put_hull(bs: &mut [Box], m: usize, p: Pair)
 }
 
 // Join i of n sinks: the best pair is joined and written, and what is kept is right again for the live nodes, one fewer.
-fn round(bs: &mut [Box], live: &mut [usize], rows: &mut [u32], n: usize, i: usize, js: &mut [u16])
+fn round(bs: &mut [Box], live: &mut [usize], rows: &mut Rows, n: usize, i: usize, js: &mut [u16])
     requires { Open n i bs.old live.old rows.old js.old }
     ensures { Round n i bs.old bs.new live.old live.new rows.new js.old js.new }
 {
@@ -56,14 +57,12 @@ pub fn order_sound(xs: &[i32], ys: &[i32], delays: &[u32], js: &mut [u16])
     let n = xs.len();
     let mut bs = [boxes::BLANK; 1023];
     let mut live = [0usize; 512];
-    let mut rows = [0u32; 3584];
+    let mut rows = Rows::blank();
     table::put_sinks(xs, ys, delays, &mut bs);
     live::begin(&mut live[..n]);
     keep::begin(&bs, &mut rows, n);
-    let mut i = 0;
-    while i + 1 < n {
+    for i in 0..n - 1 {
         round(&mut bs, &mut live[..n - i], &mut rows, n, i, js);
-        i += 1;
     }
 }
 

@@ -13,6 +13,7 @@ use Rattle.lists.specs.Grow.{sum_to}
 use Rattle.lists.proofs.Any.{any_yes, any_none}
 use Rattle.lists.proofs.Grow.{sum_same}
 use Rattle.lists.proofs.Tests.{or_lt}
+use Rattle.partners.specs.declared.rows.Rows.{Rows}
 use Rattle.partners.specs.Rows.{row_at}
 
 -- a sum with one term less
@@ -29,10 +30,10 @@ abbrev is_live : List ℕ → ℕ → Bool
 is_live live j = any (λ i. eqb (get_or live i 0) j) (length live)
 
 -- of the first k rows, those whose partner is gone
-unfoldable pub gone : List ℕ → List ℕ → ℕ → ℕ
+unfoldable pub gone : List ℕ → Rows → ℕ → ℕ
 gone live rows k = sum_to (λ t. cond (is_live live (row_at rows t).at) 0 1) k
 
-pub gone_less : (live rows rows' : List ℕ) (k a b : ℕ) → a < k → ((t : ℕ) → t < length live → get_or live t 0 ≡ (row_at rows a).at → ⊥) → b < length live → get_or live b 0 ≡ (row_at rows' a).at → ((t : ℕ) → t < k → (t ≡ a → ⊥) → (row_at rows' t).at ≡ (row_at rows t).at) → gone live rows' k < gone live rows k
+pub gone_less : (live : List ℕ) (rows rows' : Rows) (k a b : ℕ) → a < k → ((t : ℕ) → t < length live → get_or live t 0 ≡ (row_at rows a).at → ⊥) → b < length live → get_or live b 0 ≡ (row_at rows' a).at → ((t : ℕ) → t < k → (t ≡ a → ⊥) → (row_at rows' t).at ≡ (row_at rows t).at) → gone live rows' k < gone live rows k
 unfolding gone
 gone_less live rows rows' k a b h none l e same =
     let dead : is_live live (row_at rows a).at ≡ false = any_none (λ i. eqb (get_or live i 0) (row_at rows a).at) (length live) (λ i g. ne_eqb (get_or live i 0) (row_at rows a).at (none i g)) in

@@ -13,6 +13,7 @@ use Rattle.measures.specs.Boxes.{hull_of, diam_of}
 use Rattle.orders.specs.Table.{box_at}
 use Rattle.partners.specs.Boxes.{reach}
 use Rattle.partners.specs.Live.{Below}
+use Rattle.partners.specs.declared.rows.Rows.{Rows}
 use Rattle.partners.specs.Rows.{Row, row_at, span, given, held, Sets, NewBox, Right, Seated, Entered}
 use Rattle.partners.proofs.Members.{all_at}
 
@@ -133,10 +134,10 @@ right_enter {bs} {live} {m} {row} {row'} b k is e v low w = fits_right (λ s h. 
         }
 
 -- ---- how a node comes after others: its box is put, and the last before it has no other partner
-pub seated_first : {b : Box} {m k : ℕ} {rows rows' : List ℕ} → k ≡ 0 → NewBox k b rows rows' → Seated k b m rows rows'
+pub seated_first : {b : Box} {m k : ℕ} {rows rows' : Rows} → k ≡ 0 → NewBox k b rows rows' → Seated k b m rows rows'
 seated_first e p = record { same = λ t h. (let z : ⊥ = omega arith in absurd z); gives = λ t h. (let z : ⊥ = omega arith in absurd z); puts = p.here }
 
-pub seated_more : {b : Box} {m k w : ℕ} {rows rows1 rows2 : List ℕ} → 0 < k → k < 512 → NewBox k b rows rows1 → w ≡ span (row_at rows1 (k - 1)) b → Sets (k - 1) (given (row_at rows1 (k - 1)) m w) rows1 rows2 → Seated k b m rows rows2
+pub seated_more : {b : Box} {m k w : ℕ} {rows rows1 rows2 : Rows} → 0 < k → k < 512 → NewBox k b rows rows1 → w ≡ span (row_at rows1 (k - 1)) b → Sets (k - 1) (given (row_at rows1 (k - 1)) m w) rows1 rows2 → Seated k b m rows rows2
 seated_more {b} {m} {k} {w} {rows} {rows1} {rows2} h l p e g =
     record {
       same = λ t q. g.others t (omega arith) (λ z. omega arith) ∙ p.others t (omega arith) (λ z. omega arith);
@@ -156,7 +157,7 @@ held_given : (b : Box) (m : ℕ) (r : Row) → given (held b m r) m (span (held 
 unfolding span
 held_given b m r = ap (λ (o : Box). record { box = o; far = diam_of (hull_of o b); at = m }) (held_box b m r)
 
-pub entered : {b : Box} {m k : ℕ} {row : ℕ → Row} {rows rows' : List ℕ} → ((t : ℕ) → t < k → row_at rows t ≡ held b m (row t)) → Seated k b m rows rows' → Entered k b m row (row_at rows')
+pub entered : {b : Box} {m k : ℕ} {row : ℕ → Row} {rows rows' : Rows} → ((t : ℕ) → t < k → row_at rows t ≡ held b m (row t)) → Seated k b m rows rows' → Entered k b m row (row_at rows')
 entered {b} {m} {k} {row} {rows} {rows'} f w =
     record {
       holds = λ t h. w.same t h ∙ f t (omega arith);

@@ -9,10 +9,9 @@ pub mod Unnamed
 -- what is kept beside each live node
 pub mod Moving
 pub mod Rowing
-pub mod Room
 pub mod Leasts
+pub mod Placing
 pub mod Entering
 pub mod Closing
-pub mod Halving
 pub mod Picking
 pub mod Ending

@@ -18,6 +18,7 @@ use Rattle.partners.specs.Rule.{In, Leads, Chosen}
 use Rattle.partners.specs.Rule.In.{hit, next}
 use Rattle.partners.specs.Boxes.{Upright, reach}
 use Rattle.partners.specs.Live.{Below, Rising}
+use Rattle.partners.specs.declared.rows.Rows.{Rows}
 use Rattle.partners.specs.Rows.{Row, row_at, span, given, Lowest, NearestAfter, Right, place_of}
 use Rattle.partners.proofs.Members.{all_at, all_in, rising_at, rising_up}
 use Rattle.partners.proofs.Ruled.{best_chosen, only_chosen}
@@ -41,23 +42,12 @@ rising_from {ls} s t r h l =
     (λ p. ⊎_elim (λ q. (let g = rising_at t s r q h in let z : ⊥ = omega arith in absurd z)) (λ q. (let e : s ≡ t = omega arith in let f = ap (λ (o : ℕ). get_or ls o 0) e in let z : ⊥ = omega arith in absurd z)) (or_lt t s))
     (or_lt s t)
 
--- where the search comes to the end, the node is not live; where it does not, it is
-pub missing : (ls : List ℕ) (x : ℕ) {t : ℕ} → t ≡ place_of ls x → t ≡ length ls → (i : ℕ) → i < length ls → get_or ls i 0 ≡ x → ⊥
-missing ls x e f i h q =
-    let n = eqb-false (get_or ls i 0) x (first_none (λ j. eqb (get_or ls j 0) x) 0 (length ls) (omega (arith, e, f)) i (omega arith) (omega arith)) in
-    n q
-
-pub hit_at : (ls : List ℕ) (x : ℕ) {t : ℕ} → t ≡ place_of ls x → (t ≡ length ls → ⊥) → (t < length ls) × (get_or ls t 0 ≡ x)
-hit_at ls x {t} e n =
-    let h : t < length ls = omega (arith, n, e, first_end (λ j. eqb (get_or ls j 0) x) 0 (length ls)) in
-    (h, rw e (eqb-true (get_or ls (place_of ls x) 0) x (first_hit (λ j. eqb (get_or ls j 0) x) 0 (length ls) (omega (arith, h, e)))))
-
 -- the box of a row has its ends in order, as those of all nodes have
 pub row_in_order : {bs : List Box} {live : List ℕ} {m : ℕ} {row : ℕ → Row} (t : ℕ) → Upright m bs → Below m live → Right bs live m row → t < length live → InOrder (row t).box
 row_in_order {live = live} t u low v h = subst InOrder (sym (v.box t h)) (u (get_or live t 0) (all_at t low h))
 
 -- ---- the pair to join
-module _ {bs : List Box} {live rows : List ℕ} {m a : ℕ} (r : Rising live) (v : Right bs live m (row_at rows)) (k : ℕ) (e : k ≡ length live) (w : Lowest rows (k - 1) a) (b : ℕ) (h : b < k) (n : get_or live b 0 ≡ (row_at rows a).at) where
+module _ {bs : List Box} {live : List ℕ} {rows : Rows} {m a : ℕ} (r : Rising live) (v : Right bs live m (row_at rows)) (k : ℕ) (e : k ≡ length live) (w : Lowest rows (k - 1) a) (b : ℕ) (h : b < k) (n : get_or live b 0 ≡ (row_at rows a).at) where
   far_is : (row_at rows a).far ≡ reach bs (get_or live a 0) (get_or live b 0)
   far_is = rw n (v.named a (omega (arith, w.one))).0
 
@@ -93,7 +83,7 @@ module _ {bs : List Box} {live rows : List ℕ} {m a : ℕ} (r : Rising live) (v
           }
 
 -- ---- a row with the first of the nearest is right
-module _ {bs : List Box} {live rows : List ℕ} {m a : ℕ} {r : Near} (up : Rising live) (v : Right bs live m (row_at rows)) (low : Below m live) (w : NearestAfter rows live a r) where
+module _ {bs : List Box} {live : List ℕ} {rows : Rows} {m a : ℕ} {r : Near} (up : Rising live) (v : Right bs live m (row_at rows)) (low : Below m live) (w : NearestAfter rows live a r) where
   span_at : (t : ℕ) → t < length live → span (row_at rows a) (row_at rows t).box ≡ reach bs (get_or live a 0) (get_or live t 0)
   span_at t h = span_is bs (row_at rows a) (row_at rows t).box (get_or live a 0) (get_or live t 0) (v.box a (omega (arith, w.later, w.inside))) (v.box t h)
 

@@ -1,12 +1,12 @@
--- For the code alone: what is kept beside each live node, packed as they are. One list of numbers has six of them for each, 512 apart, and after those 512 numbers to work with.
-use Rattle.std.specs.Prelude.{◌≡◌, cond, List, ℕ, suc, ◌+◌, ◌-◌, ◌≤◌, ◌<◌, ltb, eqb, length, get_or}
+-- For the code alone: what is kept beside each live node, packed as they are.
+use Rattle.std.specs.Prelude.{◌≡◌, cond, List, Option, ℕ, suc, ◌+◌, ◌-◌, ◌≤◌, ◌<◌, ltb, eqb, length, get_or, position}
 use Rattle.measures.specs.Measures.{kept_as}
 use Rattle.measures.specs.Boxes.{hull_of, diam_of}
 use Rattle.measures.specs.declared.boxes.Box.{Box}
-use Rattle.lists.specs.First.{first}
 use Rattle.partners.specs.declared.pair.Near.{Near}
 use Rattle.partners.specs.declared.pair.Pair.{Pair}
 use Rattle.partners.specs.declared.best.Choice.{Choice}
+use Rattle.partners.specs.declared.rows.Rows.{Rows}
 use Rattle.partners.specs.Closest.{pair}
 use Rattle.orders.specs.Table.{box_at}
 use Rattle.partners.specs.Boxes.{Upright, reach}
@@ -18,18 +18,14 @@ pub record Row : Type 0 where
   pub far : ℕ
   pub at : ℕ
 
--- row t of the list
-abbrev pub row_at : List ℕ → ℕ → Row
+-- row t
+abbrev pub row_at : Rows → ℕ → Row
 row_at rows t =
     record {
-      box = record { lu = kept_as (get_or rows t 0); hu = kept_as (get_or rows (512 + t) 0); lv = kept_as (get_or rows (1024 + t) 0); hv = kept_as (get_or rows (1536 + t) 0) };
-      far = get_or rows (2048 + t) 0;
-      at = get_or rows (2560 + t) 0;
+      box = record { lu = get_or rows.low_u t (kept_as 0); hu = get_or rows.high_u t (kept_as 0); lv = get_or rows.low_v t (kept_as 0); hv = get_or rows.high_v t (kept_as 0) };
+      far = get_or rows.far t 0;
+      at = get_or rows.partner t 0;
     }
-
--- the list has room for 512 rows and a number beside each to work with
-abbrev pub Roomy : List ℕ → Type 0
-Roomy rows = 3584 ≤ length rows
 
 -- the diameter of a row's union with a box
 unfoldable pub span : Row → Box → ℕ
@@ -44,7 +40,7 @@ unfoldable pub held : Box → ℕ → Row → Row
 held b m r = cond (ltb (span r b) r.far) (given r m (span r b)) r
 
 -- row t is now r, and the others are as they were
-pub record Sets (t : ℕ) (r : Row) (old new : List ℕ) : Type 0 where
+pub record Sets (t : ℕ) (r : Row) (old new : Rows) : Type 0 where
   pub here : row_at new t ≡ r
   pub others : (s : ℕ) → s < 512 → (s ≡ t → ⊥) → row_at new s ≡ row_at old s
 
@@ -56,26 +52,26 @@ skip a t = cond (ltb t a) t (suc t)
 abbrev pub skip_both : Choice → ℕ → ℕ
 skip_both c t = skip c.with (skip c.row t)
 
--- of k numbers of a list from a place on, the least is d
-pub record Least (ls : List ℕ) (from k d : ℕ) : Type 0 where
+-- of the numbers of a list the least is d
+pub record Least (ds : List ℕ) (d : ℕ) : Type 0 where
   pub place : ℕ
-  pub inside : place < k
-  pub is : get_or ls (from + place) 0 ≡ d
-  pub least : (s : ℕ) → s < k → d ≤ get_or ls (from + s) 0
+  pub inside : place < length ds
+  pub is : get_or ds place 0 ≡ d
+  pub least : (s : ℕ) → s < length ds → d ≤ get_or ds s 0
 
--- of k numbers of a list from a place on, number a is the first of the least
-pub record FirstLeast (ls : List ℕ) (from k a : ℕ) : Type 0 where
-  pub one : a < k
-  pub least : (s : ℕ) → s < k → get_or ls (from + a) 0 ≤ get_or ls (from + s) 0
-  pub first : (s : ℕ) → s < a → get_or ls (from + a) 0 < get_or ls (from + s) 0
+-- of the numbers of a list, number a is the first of the least
+pub record FirstLeast (ds : List ℕ) (a : ℕ) : Type 0 where
+  pub one : a < length ds
+  pub least : (s : ℕ) → s < length ds → get_or ds a 0 ≤ get_or ds s 0
+  pub first : (s : ℕ) → s < a → get_or ds a 0 < get_or ds s 0
 
 -- the first k rows are held against node m with box b, and the others are as they were
-pub record Holds (k : ℕ) (b : Box) (m : ℕ) (old new : List ℕ) : Type 0 where
+pub record Holds (k : ℕ) (b : Box) (m : ℕ) (old new : Rows) : Type 0 where
   pub first : (t : ℕ) → t < k → row_at new t ≡ held b m (row_at old t)
   pub others : (t : ℕ) → k ≤ t → t < 512 → row_at new t ≡ row_at old t
 
 -- row t's box is now b, and the other rows are as they were
-pub record NewBox (t : ℕ) (b : Box) (old new : List ℕ) : Type 0 where
+pub record NewBox (t : ℕ) (b : Box) (old new : Rows) : Type 0 where
   pub here : (row_at new t).box ≡ b
   pub others : (s : ℕ) → s < 512 → (s ≡ t → ⊥) → row_at new s ≡ row_at old s
 
@@ -86,27 +82,29 @@ pub record Shifts {A : Type 0} (make : A → A) (n by from to : ℕ) (old new : 
   pub after : (t : ℕ) → to ≤ t → t < n → new t ≡ old t
 
 -- rows move up, held against node m with box b; live nodes move up as they are
-abbrev pub RowsUp : ℕ → ℕ → ℕ → Box → ℕ → List ℕ → List ℕ → Type 0
+abbrev pub RowsUp : ℕ → ℕ → ℕ → Box → ℕ → Rows → Rows → Type 0
 RowsUp by from to b m old new = Shifts (held b m) 512 by from to (row_at old) (row_at new)
 
 abbrev pub NodesUp : ℕ → ℕ → ℕ → List ℕ → List ℕ → Type 0
 NodesUp by from to old new = Shifts (λ x. x) (length old) by from to (λ t. get_or old t 0) (λ t. get_or new t 0)
 
 -- no row changed
-abbrev pub SameRows : List ℕ → List ℕ → Type 0
+abbrev pub SameRows : Rows → Rows → Type 0
 SameRows old new = (s : ℕ) → s < 512 → row_at new s ≡ row_at old s
 
 -- beside each row of a run stands the diameter of its union with a box, and no row changed
-pub record Spans (from to : ℕ) (b : Box) (old new : List ℕ) : Type 0 where
-  pub here : (t : ℕ) → from ≤ t → t < to → get_or new (3072 + t) 0 ≡ span (row_at old t) b
+pub record Spans (from to : ℕ) (b : Box) (old new : Rows) : Type 0 where
+  pub here : (t : ℕ) → from ≤ t → t < to → get_or new.aside t 0 ≡ span (row_at old t) b
   pub same : SameRows old new
 
 -- of k rows, a is the first of those whose partner is nearest
-abbrev pub Lowest : List ℕ → ℕ → ℕ → Type 0
-Lowest rows k a = FirstLeast rows 2048 k a
+pub record Lowest (rows : Rows) (k a : ℕ) : Type 0 where
+  pub one : a < k
+  pub least : (s : ℕ) → s < k → (row_at rows a).far ≤ (row_at rows s).far
+  pub first : (s : ℕ) → s < a → (row_at rows a).far < (row_at rows s).far
 
 -- of the live nodes after row a, the first of the nearest
-pub record NearestAfter (rows live : List ℕ) (a : ℕ) (r : Near) : Type 0 where
+pub record NearestAfter (rows : Rows) (live : List ℕ) (a : ℕ) (r : Near) : Type 0 where
   pub place : ℕ
   pub later : a < place
   pub inside : place < length live
@@ -123,12 +121,12 @@ pub record Right (bs : List Box) (live : List ℕ) (m : ℕ) (row : ℕ → Row)
   pub first : (s t : ℕ) → s < t → t < length live → (row s).far ≡ reach bs (get_or live s 0) (get_or live t 0) → (row s).at ≤ get_or live t 0
   pub named : (t : ℕ) → suc t < length live → ((row t).far ≡ reach bs (get_or live t 0) (row t).at) × (get_or live t 0 < (row t).at) × ((row t).at < m)
 
--- where node x stands among the live ones; how many there are, where it is not live
-abbrev pub place_of : List ℕ → ℕ → ℕ
-place_of live x = first (λ i. eqb (get_or live i 0) x) 0 (length live)
+-- where node x stands among the live ones, if it does
+abbrev pub place_of : List ℕ → ℕ → Option ℕ
+place_of live x = position (λ a. eqb a x) live
 
 -- live nodes beside which what is kept is right
-pub record Caching (bs : List Box) (live rows : List ℕ) : Type 0 where
+pub record Caching (bs : List Box) (live : List ℕ) (rows : Rows) : Type 0 where
   pub top : ℕ
   pub right : Right bs live top (row_at rows)
   pub rising : Rising live
@@ -137,25 +135,19 @@ pub record Caching (bs : List Box) (live rows : List ℕ) : Type 0 where
   pub few_nodes : top ≤ 1023
   pub two : 2 ≤ length live
   pub few : length live ≤ 512
-  pub roomy : Roomy rows
-
--- the row to join, and where its partner stands, if it does
-pub record Chooses (live rows : List ℕ) (c : Choice) : Type 0 where
-  pub lowest : Lowest rows (length live - 1) c.row
-  pub place : c.with ≡ place_of live (row_at rows c.row).at
 
 -- the two nodes at their places
 abbrev pub pair_at : List ℕ → Choice → Pair
 pair_at live c = pair (get_or live c.row 0) (get_or live c.with 0)
 
 -- two places in turn, and what is kept is right as before
-pub record Picks (bs : List Box) (live rows : List ℕ) (r : Choice) (rows' : List ℕ) : Type 0 where
+pub record Picks (bs : List Box) (live : List ℕ) (rows : Rows) (r : Choice) (rows' : Rows) : Type 0 where
   pub up : r.row < r.with
   pub inside : r.with < length live
   pub right : (m : ℕ) → Below m live → Right bs live m (row_at rows) → Right bs live m (row_at rows')
 
 -- node m with box b comes after k rows: they are as they were, but the last has no other partner
-pub record Seated (k : ℕ) (b : Box) (m : ℕ) (rows rows' : List ℕ) : Type 0 where
+pub record Seated (k : ℕ) (b : Box) (m : ℕ) (rows rows' : Rows) : Type 0 where
   pub same : (t : ℕ) → t + 1 < k → row_at rows' t ≡ row_at rows t
   pub gives : (t : ℕ) → t + 1 ≡ k → row_at rows' t ≡ given (row_at rows t) m (span (row_at rows t) b)
   pub puts : (row_at rows' k).box ≡ b
@@ -167,7 +159,7 @@ pub record Entered (k : ℕ) (b : Box) (m : ℕ) (row row' : ℕ → Row) : Type
   pub puts : (row' k).box ≡ b
 
 -- the two nodes of a pair have left with their rows, those after them moved up, and node m with box b comes last
-pub record Closed (c : Choice) (b : Box) (m : ℕ) (live live' rows rows' : List ℕ) : Type 0 where
+pub record Closed (c : Choice) (b : Box) (m : ℕ) (live live' : List ℕ) (rows rows' : Rows) : Type 0 where
   pub nodes : (t : ℕ) → t + 2 < length live → get_or live' t 0 ≡ get_or live (skip_both c t) 0
   pub last : get_or live' (length live - 2) 0 ≡ m
   pub enters : Entered (length live - 2) b m (λ t. row_at rows (skip_both c t)) (row_at rows')

@@ -1,12 +1,12 @@
 // The pair to join: of the live nodes the first whose union has the least diameter, from what is kept beside each.
-ghost use Rattle.std.specs.Prelude.{◌≡◌, ◌≤◌, ◌<◌, length};
+ghost use Rattle.std.specs.Prelude.{◌≡◌, ◌<◌, length};
 ghost use Rattle.partners.specs.Closest.{best};
 ghost use Rattle.partners.specs.Boxes.{reach};
-ghost use Rattle.partners.specs.Live.{Rising};
-ghost use Rattle.partners.specs.Rows.{pair_at, Roomy, Caching, Chooses, Picks};
+ghost use Rattle.partners.specs.Rows.{pair_at, Caching, Picks};
 
 use crate::pair::Pair;
-use crate::{live, lowest, rows};
+use crate::rows::Rows;
+use crate::{live, lowest};
 use measures::boxes::Box;
 
 // A row, and where its partner stands among the live nodes.
@@ -16,32 +16,20 @@ pub struct Choice {
     pub with: usize,
 }
 
-// The first of the rows whose partner is nearest. The last row has no partner.
-fn choose(live: &[usize], rows: &[u32]) -> Choice
-    requires { Rising live.now × Roomy rows.now × (2 ≤ length live.now) × (length live.now ≤ 512) }
-    ensures { Chooses live.now rows.now result }
-{
-    let a = lowest::lowest(rows, live.len() - 1);
-    let j = rows[2560 + a] as usize;
-    Choice {
-        row: a,
-        with: live::place(live, j),
-    }
-}
-
 // The leaf: the places of the best pair of live nodes, which come in rising order. A row whose partner is gone is looked through again only where it comes first:
 // what it keeps is nearer than what is left, so no other pair is passed over. The boxes by node number are not read: they are what the promise speaks of.
-pub fn nearest(live: &[usize], bs: &[Box], rows: &mut [u32]) -> Choice
+pub fn nearest(live: &[usize], bs: &[Box], rows: &mut Rows) -> Choice
     requires { Caching bs.now live.now rows.old }
     ensures { (pair_at live.now result ≡ best (reach bs.now) live.now) × Picks bs.now live.now rows.old result rows.new }
 {
-    let mut c = choose(live, rows);
-    while c.with == live.len() {
-        let q = lowest::partner(rows, live, c.row);
-        rows::give(rows, c.row, q);
-        c = choose(live, rows);
+    'rows: loop {
+        let row = lowest::lowest(rows, live.len() - 1);
+        if let Some(with) = live::place(live, rows.partner[row] as usize) {
+            return Choice { row, with };
+        }
+        let q = lowest::partner(rows, live, row);
+        rows.give(row, q);
     }
-    c
 }
 
 // The two nodes at their places.

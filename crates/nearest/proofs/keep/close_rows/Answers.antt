@@ -6,4 +6,4 @@ use Rattle.nearest.proofs.keep.close_rows.Goals as goal
 pub returns : goal.returns
 returns c =
     let s = c.args in
-    entered (λ t h. both_left s.c.row s.c.with s.k c.requires.2 c.requires.1 c.hold.ensures.first c.hold.ensures.others c.take_one.ensures c.take_two.ensures t (omega (arith, h))) c.seat.ensures
+    entered (λ t h. both_left s.c.row s.c.with s.k c.requires.1 c.requires.0 c.hold.ensures.first c.hold.ensures.others c.take.ensures c.take-2.ensures t (omega (arith, h))) c.seat.ensures

@@ -17,7 +17,7 @@ close-requires c =
     let o = c.requires in
     let w = c.nearest-c.ensures in
     let e = c.pair_at-p.ensures ∙ w.0 in
-    (omega (arith, o.roomy, c.nearest-c.auto.rows), omega (arith, o.packed.count, o.few), w.1.up, w.1.inside, omega (arith, o.few, o.turn), open_upright c.pair_at-p.result _ o e c.put_hull.ensures refl)
+    (omega (arith, o.packed.count, o.few), w.1.up, w.1.inside, omega (arith, o.few, o.turn), open_upright c.pair_at-p.result _ o e c.put_hull.ensures refl)
 
 pub write_pair-requires : goal.write_pair-requires
 write_pair-requires c =

@@ -9,8 +9,5 @@ loop-t-init c = filled_begin
 pub loop-t-preserved : goal.loop-t-preserved
 loop-t-preserved c = let l = c.loop-t in filled_more l.t l.invariant (omega (arith, l.invariant.size)) (sym (length-up_to l.t))
 
-pub shape_of-live : goal.shape_of-live
-shape_of-live c = c.loop-t.invariant.size
-
 pub returns : goal.returns
 returns c = let v = c.loop-t.invariant in filled_all v (omega (arith, v.size))

@@ -1,15 +1,12 @@
 use native.Mathlib.Omega.{arith}
-use Rattle.partners.proofs.Leasts.{greater_begin, greater_turn, greater_stop, greater_end}
+use borrow.Author.Tests.{eq-eqb}
+use lib.Dec.{eqb}
+use lib.ListN.{get_or}
+use Rattle.partners.proofs.Placing.{position_some, position_none}
 use Rattle.partners.proofs.lowest.first_at.Goals as goal
 
-pub loop-t-init : goal.loop-t-init
-loop-t-init c = (omega arith, greater_begin)
-
-pub returns-then-rows-from : goal.returns-then-rows-from
-returns-then-rows-from c = greater_stop c.requires.2 c.loop-t.invariant.1 c.loop-t-test.true c.if-rows-from.true
-
-pub loop-t-preserved : goal.loop-t-preserved
-loop-t-preserved c = (omega arith, greater_turn c.requires.2 c.loop-t.invariant.1 c.loop-t-test.true c.if-rows-from.false)
+pub returns-then-e-d : goal.returns-then-e-d
+returns-then-e-d c = position_some (λ e. eqb e c.args.d) c.args.ds.now c.loop-t.t c.loop-t-test.true c.loop-t.invariant (eq-eqb (get_or c.args.ds.now c.loop-t.t 0) c.args.d c.if-e-d.true)
 
 pub returns : goal.returns
-returns c = absurd (greater_end c.requires.2 c.loop-t.invariant.1 c.loop-t-test.false)
+returns c = position_none (λ e. eqb e c.args.d) c.args.ds.now (λ k h. c.loop-t.invariant k (omega arith))
