@@ -5,7 +5,7 @@ use Prim.Native.Nat.{ℕ, ◌-◌, ◌*◌}
 use lib.IntN.{ℤ}
 use lib.ListN.{length, take}
 use Rattle.lists.specs.Grow.{front}
-use Rattle.lists.proofs.Front.{front_part, front_lent}
+use Rattle.lists.proofs.Front.{front_part}
 use Rattle.plane.specs.Sinks.{sinks_at}
 use Rattle.orders.specs.Sound.{Sound}
 use Rattle.orders.proofs.Bounded.{sound}
@@ -18,10 +18,6 @@ use Rattle.nearest.proofs.ByRule.{order_by_rule}
 pub order_held : (xs ys : List ℤ) (delays js js' : List ℕ) → js' ≡ front (order_at xs ys delays) js → take (2 * (length xs - 1)) js' ≡ order_at xs ys delays
 order_held xs ys delays js js' e =
     front_part (order_at xs ys delays) js (2 * (length xs - 1)) e (order_by_rule (sinks_at xs ys delays) (length xs)).count
-
--- as a part that is lent arrives
-pub order_taken : (xs ys : List ℤ) (delays js js' : List ℕ) → js' ≡ front (order_at xs ys delays) js → take (2 * (length xs - 1) - 0) js' ≡ order_at xs ys delays
-order_taken xs ys delays js js' e = front_lent (order_at xs ys delays) js (2 * (length xs - 1)) e (order_by_rule (sinks_at xs ys delays) (length xs)).count
 
 pub order_sounds : {xs ys : List ℤ} {delays js : List ℕ} → CanJoin xs ys delays js → Sound xs ys delays (order_at xs ys delays)
 order_sounds {xs} {ys} {delays} r =

@@ -4,6 +4,8 @@ use Rattle.lists.specs.Grow.{front}
 use Rattle.plane.specs.Said.{Said, after, if_answered, told}
 use Rattle.plane.specs.Refusals.{Checked, refusal, refuse_if, and_then}
 use Rattle.plane.specs.Sinks.{sinks_at, check_sinks}
+use Rattle.plane.specs.declared.sinks.Sinks as lent
+use Rattle.embedding.specs.declared.layout.Layout.{Layout}
 use Rattle.orders.specs.Nodes.{places_u, places_v, wires, total}
 use Rattle.embedding.specs.Embedding.{check_room}
 use Rattle.nearest.specs.Nearest.{order}
@@ -33,3 +35,7 @@ pub record Embedding (xs ys : List ℤ) (delays js : List ℕ) (us vs : List ℤ
   pub writes_u : us' ≡ front (if_answered said (places_u (sinks_at xs ys delays) (order_at xs ys delays))) us
   pub writes_v : vs' ≡ front (if_answered said (places_v (sinks_at xs ys delays) (order_at xs ys delays))) vs
   pub writes_w : ws' ≡ front (if_answered said (wires (sinks_at xs ys delays) (order_at xs ys delays))) ws
+
+-- the same of what a caller lends
+abbrev pub EmbeddingIn : lent.Sinks → List ℕ → Layout → Said ℕ → List ℕ → Layout → Type 0
+EmbeddingIn s js l said js' l' = Embedding s.xs.now s.ys.now s.delays.now js l.us.now l.vs.now l.ws.now said js' l'.us.now l'.vs.now l'.ws.now

@@ -2,6 +2,8 @@
 use Rattle.std.specs.Prelude.{◌≡◌, List, ℕ, ◌-◌, ◌*◌, ◌≤◌, ◌<◌, ℤ, length}
 use Rattle.lists.specs.Grow.{front}
 use Rattle.plane.specs.Sinks.{sinks_at, Ranged}
+use Rattle.plane.specs.declared.sinks.Sinks as lent
+use Rattle.embedding.specs.declared.layout.Layout.{Layout}
 use Rattle.orders.specs.Nodes.{places_u, places_v, wires, total}
 use Rattle.nearest.specs.Calls.{order_at}
 
@@ -26,3 +28,10 @@ pub record Trees (xs ys : List ℤ) (delays js : List ℕ) (us vs : List ℤ) (w
   pub writes_u : us' ≡ front (places_u (sinks_at xs ys delays) (order_at xs ys delays)) us
   pub writes_v : vs' ≡ front (places_v (sinks_at xs ys delays) (order_at xs ys delays)) vs
   pub writes_w : ws' ≡ front (wires (sinks_at xs ys delays) (order_at xs ys delays)) ws
+
+-- the same of what a caller lends
+abbrev pub CanBuildIn : lent.Sinks → List ℕ → Layout → Type 0
+CanBuildIn s js l = CanBuild s.xs.now s.ys.now s.delays.now js l.us.now l.vs.now l.ws.now
+
+abbrev pub TreesIn : lent.Sinks → List ℕ → Layout → ℕ → List ℕ → Layout → Type 0
+TreesIn s js l t js' l' = Trees s.xs.now s.ys.now s.delays.now js l.us.now l.vs.now l.ws.now t js' l'.us.now l'.vs.now l'.ws.now

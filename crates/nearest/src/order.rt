@@ -16,7 +16,7 @@ use partners::pair::Pair;
 use partners::rows::Rows;
 use partners::{best, live};
 use plane::refusal::Refusal;
-use plane::sinks;
+use plane::sinks::Sinks;
 
 // Pair i, the lower number first.
 fn write_pair(js: &mut [u16], i: usize, p: Pair)
@@ -50,15 +50,15 @@ fn round(bs: &mut [Box], live: &mut [usize], rows: &mut Rows, n: usize, i: usize
 }
 
 // The joining order of sinks that were checked, where the buffer has room for it.
-pub fn order_sound(xs: &[i32], ys: &[i32], delays: &[u32], js: &mut [u16])
-    requires { CanJoin xs.now ys.now delays.now js.old }
-    ensures { js.new ≡ front (order_at xs.now ys.now delays.now) js.old }
+pub fn order_sound(sinks: &Sinks<'_>, js: &mut [u16])
+    requires { CanJoin sinks.now.xs.now sinks.now.ys.now sinks.now.delays.now js.old }
+    ensures { js.new ≡ front (order_at sinks.now.xs.now sinks.now.ys.now sinks.now.delays.now) js.old }
 {
-    let n = xs.len();
+    let n = sinks.xs.len();
     let mut bs = [boxes::BLANK; 1023];
     let mut live = [0usize; 512];
     let mut rows = Rows::blank();
-    table::put_sinks(xs, ys, delays, &mut bs);
+    table::put_sinks(sinks, &mut bs);
     live::begin(&mut live[..n]);
     keep::begin(&bs, &mut rows, n);
     for i in 0..n - 1 {
@@ -68,21 +68,21 @@ pub fn order_sound(xs: &[i32], ys: &[i32], delays: &[u32], js: &mut [u16])
 
 // Refusals 1 to 4 and 15, and 7 where the buffer of joins is too short.
 #[tactic(auto, unfolding(crate::specs::Calls::check_nearest))]
-pub fn check_nearest(xs: &[i32], ys: &[i32], delays: &[u32], room: usize) -> Result<(), Refusal>
-    ensures { result ≡ check_nearest xs.now ys.now delays.now room }
+pub fn check_nearest(sinks: &Sinks<'_>, room: usize) -> Result<(), Refusal>
+    ensures { result ≡ check_nearest sinks.now.xs.now sinks.now.ys.now sinks.now.delays.now room }
 {
-    sinks::check_sinks(xs, ys, delays, 512)?;
-    if room < 2 * (xs.len() - 1) {
+    sinks.check(512)?;
+    if room < 2 * (sinks.xs.len() - 1) {
         return Err(Refusal::Room);
     }
     Ok(())
 }
 
 // Refusals 1 to 4, 15 and 7, else the joining order in the lent buffer.
-pub fn join_nearest(xs: &[i32], ys: &[i32], delays: &[u32], js: &mut [u16]) -> Result<(), Refusal>
-    ensures { Joining xs.now ys.now delays.now js.old (told result) js.new }
+pub fn join_nearest(sinks: &Sinks<'_>, js: &mut [u16]) -> Result<(), Refusal>
+    ensures { Joining sinks.now.xs.now sinks.now.ys.now sinks.now.delays.now js.old (told result) js.new }
 {
-    check_nearest(xs, ys, delays, js.len())?;
-    order_sound(xs, ys, delays, js);
+    check_nearest(sinks, js.len())?;
+    order_sound(sinks, js);
     Ok(())
 }

@@ -10,7 +10,7 @@ use lib.ListN.{length, take}
 use lib.Pow.{pow_mono}
 use lib.Count.{ones-ones}
 use borrow.Author.Tests.{le-leb, lt-leb, leb-true, ltb-false}
-use Rattle.lists.proofs.Front.{front_part, front_lent}
+use Rattle.lists.proofs.Front.{front_part}
 use Rattle.lists.specs.Grow.{front}
 use Rattle.zero_skew.specs.Plane.{Sinks}
 use Rattle.zero_skew.specs.Order.{Order, Over}
@@ -132,8 +132,8 @@ module _ (xs ys : List ℤ) (delays : List ℕ) (budget : ℕ) where
     pub found_held : (js js2 : List ℕ) → js2 ≡ front (joins_found here budget) js → take (2 * (length xs - 1)) js2 ≡ joins_found here budget
     found_held js js2 e = front_part (joins_found here budget) js (2 * (length xs - 1)) e found_valid.count
 
-    pub found_part : (js js2 : List ℕ) → js2 ≡ front (joins_found here budget) js → take (2 * (length xs - 1) - 0) js2 ≡ joins_found here budget
-    found_part js js2 e = front_lent (joins_found here budget) js (2 * (length xs - 1)) e found_valid.count
+    pub found_part : (js js2 : List ℕ) → js2 ≡ front (joins_found here budget) js → take (2 * (length xs - 1)) js2 ≡ joins_found here budget
+    found_part js js2 e = front_part (joins_found here budget) js (2 * (length xs - 1)) e found_valid.count
 
   -- the answer, from its parts
   pub found_is : (js : List ℕ) (t st all : ℕ) → js ≡ joins_found here budget → t ≡ total here js → st ≡ min budget (step_count (length xs)) → all ≡ step_count (length xs)

@@ -23,7 +23,12 @@ fn check_rooms(n: usize, table: usize, js: usize, layout: &Layout<'_>) -> Result
 
 // Refusals 1 to 4 and 15, then 7.
 #[tactic(auto, unfolding(crate::specs::Rooms::check_search))]
-pub fn check_search(sinks: &Sinks<'_>, table: usize, js: usize, layout: &Layout<'_>) -> Result<(), Refusal>
+pub fn check_search(
+    sinks: &Sinks<'_>,
+    table: usize,
+    js: usize,
+    layout: &Layout<'_>,
+) -> Result<(), Refusal>
     ensures { result ≡ check_search sinks.now.xs.now sinks.now.ys.now sinks.now.delays.now table js (length layout.now.us.now) (length layout.now.vs.now) (length layout.now.ws.now) }
 {
     sinks.check(12)?;

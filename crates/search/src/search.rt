@@ -50,7 +50,13 @@ pub fn search_joins(sinks: &Sinks<'_>, budget: u64, table: &mut [u32], js: &mut 
 }
 
 // The search, where the sinks were checked and the buffers have room.
-fn search_sound(sinks: &Sinks<'_>, budget: u64, table: &mut [u32], js: &mut [u16], layout: &mut Layout<'_>) -> Found
+fn search_sound(
+    sinks: &Sinks<'_>,
+    budget: u64,
+    table: &mut [u32],
+    js: &mut [u16],
+    layout: &mut Layout<'_>,
+) -> Found
     requires { ProvidedFor sinks.now table.old js.old layout.old }
     ensures { FindsIn sinks.now budget table.old js.old layout.old result table.new js.new layout.new }
 {
@@ -66,7 +72,13 @@ fn search_sound(sinks: &Sinks<'_>, budget: u64, table: &mut [u32], js: &mut [u16
 
 // Searches the sinks' shortest tree, examining at most `budget` splits: refusals 1 to 4, 15 and 7, else the total, with the work table, the joins, the places and the wires in the lent
 // buffers. From F(n) splits on the tree is proven; below, it is that of joining by least diameter.
-pub fn search(sinks: &Sinks<'_>, budget: u64, table: &mut [u32], js: &mut [u16], layout: &mut Layout<'_>) -> Result<Found, Refusal>
+pub fn search(
+    sinks: &Sinks<'_>,
+    budget: u64,
+    table: &mut [u32],
+    js: &mut [u16],
+    layout: &mut Layout<'_>,
+) -> Result<Found, Refusal>
     ensures { SearchesIn sinks.now budget table.old js.old layout.old (told result) table.new js.new layout.new }
 {
     rooms::check_search(sinks, table.len(), js.len(), layout)?;

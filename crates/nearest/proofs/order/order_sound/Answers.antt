@@ -21,7 +21,7 @@ begin-requires-2 c = (let o = c.requires in (o.few, omega (arith, c.put_sinks.au
 pub loop-i-init : goal.loop-i-init
 loop-i-init c =
     let o = c.requires in
-    let n = length c.args.xs.now in
+    let n = length c.args.sinks.now.xs.now in
     let e : length (take n zeros-512) ≡ n = length-take-le n zeros-512 o.few in
     going_begin n _ c.args.js.now c.put_sinks.ensures (rw e at c.begin.ensures) c.begin-2.ensures
 

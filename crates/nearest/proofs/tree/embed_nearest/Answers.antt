@@ -4,8 +4,8 @@ use Rattle.embedding.proofs.Rooms.{has_room}
 use Rattle.nearest.proofs.Passing.{ready}
 use Rattle.nearest.proofs.tree.embed_nearest.Goals as goal
 
-pub overflow_sub-xs : goal.overflow_sub-xs
-overflow_sub-xs c = omega (arith, (ready _ _ _ c.args.js.now (sym c.check_nearest.ensures ∙ c.in_ok-check_nearest.was)).some)
+pub overflow_sub-sinks : goal.overflow_sub-sinks
+overflow_sub-sinks c = omega (arith, (ready _ _ _ c.args.js.now (sym c.check_nearest.ensures ∙ c.in_ok-check_nearest.was)).some)
 
 pub tree_sound-requires : goal.tree_sound-requires
 tree_sound-requires c =
