@@ -4,21 +4,15 @@ use Rattle.fields.specs.Form.{past, next_at}
 use Rattle.fields.proofs.Scan.{past_more}
 use Rattle.fields.proofs.field.past_fields.Goals as goal
 
-pub loop-t-init : goal.loop-t-init
+pub loop-init : goal.loop-init
 unfolding past
-loop-t-init c = (omega arith, refl)
+loop-init c = refl
 
 pub next_at-at-requires : goal.next_at-at-requires
-next_at-at-requires c =
-    let l = c.loop-t in
-    rw l.invariant.1 (c.requires.header l.t c.loop-t-test.true)
+next_at-at-requires c = rw c.loop.invariant (c.requires.header c.loop.counter c.loop-test.true)
 
-pub loop-t-preserved : goal.loop-t-preserved
-loop-t-preserved c =
-    let l = c.loop-t in
-    (omega arith, c.next_at-at.ensures ∙ ap (next_at _) l.invariant.1 ∙ sym (past_more _ l.t))
+pub loop-preserved : goal.loop-preserved
+loop-preserved c = c.next_at-at.ensures ∙ ap (next_at _) c.loop.invariant ∙ sym (past_more _ c.loop.counter)
 
 pub returns : goal.returns
-returns c =
-    let e : c.loop-t.t ≡ c.args.k = omega arith in
-    c.loop-t.invariant.1 ∙ ap (past _) e
+returns c = let e : c.loop.counter ≡ c.args.k = omega arith in rw e at c.loop.invariant
