@@ -11,7 +11,6 @@ use Rattle.std.specs.Prelude.{Ok}
 use lib.ListN.{length, get_or, take, drop, length-append, length-take, length-drop, take-append-drop, drop_of_length-le, get_or-eq_default}
 use lib.Seq.{length-take-le, take_at, drop_at, drop-cons, drop-drop, get_or_at, get_or-take, get_or-drop}
 use Rattle.lists.proofs.Tests.{or_lt}
-use Rattle.plane.specs.declared.refusal.Checked.TheVariants.{Fine}
 use Rattle.fields.specs.Bytes.{big, Bytes}
 use Rattle.fields.specs.Fields.{field, fields}
 use Rattle.fields.specs.Form.{wrong_length, wrong_version, length_at, next_at, value_at, body_at, field_at, form_from}
@@ -76,7 +75,7 @@ module _ (f p r v : List ℕ) (at tag : ℕ) (e : f ≡ p ++ (field tag v ++ r))
         ap (wrong_version tag) b ∙ g.version r,
       )
 
-pub written_form : (f p : List ℕ) (at tag : ℕ) (vs : List (List ℕ)) → f ≡ p ++ fields tag vs → length p ≡ at → Fairs tag vs → (form_from f (length vs) tag at ≡ Fine) × (values f (length vs) at ≡ vs)
+pub written_form : (f p : List ℕ) (at tag : ℕ) (vs : List (List ℕ)) → f ≡ p ++ fields tag vs → length p ≡ at → Fairs tag vs → (form_from f (length vs) tag at ≡ Ok tt) × (values f (length vs) at ≡ vs)
 unfolding form_from
 written_form f p at tag [] e l none = (rw (le-ltb at (length f) (rw (e, append-nil) (omega arith))), refl)
 written_form f p at tag (v ∷ vs) e l (also g gs) =

@@ -10,7 +10,6 @@ use Rattle.std.specs.Prelude.{Result, Ok, Err}
 use lib.Dec.{eqb, ltb, leb}
 use lib.ListN.{length, get_or}
 use Rattle.lists.proofs.Tests.{or_lt}
-use Rattle.plane.specs.declared.refusal.Checked.TheVariants.{Fine}
 use Rattle.plane.specs.declared.refusal.Refusal.{Refusal}
 use Rattle.plane.specs.declared.refusal.Refusal.TheVariants.{Form}
 use Rattle.plane.proofs.Checks.{passed}
@@ -54,12 +53,12 @@ stands f at tag next q =
     )
 
 -- a file of the form is whole
-pub whole : (f : List ℕ) (k tag at : ℕ) → form_from f k tag at ≡ Fine → Whole f k tag at
+pub whole : (f : List ℕ) (k tag at : ℕ) → form_from f k tag at ≡ Ok tt → Whole f k tag at
 unfolding form_from
-whole f zero tag at q = done (ltb-false at (length f) (passed (ltb at (length f)) (Form at) Fine q).0)
+whole f zero tag at q = done (ltb-false at (length f) (passed (ltb at (length f)) (Form at) (Ok tt) q).0)
 whole f (suc k) tag at q = go (field_at f at tag) refl q (whole f k (suc tag))
   where
-    go : (r : Result ℕ Refusal) → field_at f at tag ≡ r → after_field r (form_from f k (suc tag)) ≡ Fine → ((next : ℕ) → form_from f k (suc tag) next ≡ Fine → Whole f k (suc tag) next) → Whole f (suc k) tag at
+    go : (r : Result ℕ Refusal) → field_at f at tag ≡ r → after_field r (form_from f k (suc tag)) ≡ Ok tt → ((next : ℕ) → form_from f k (suc tag) next ≡ Ok tt → Whole f k (suc tag) next) → Whole f (suc k) tag at
     go (Ok next) e p rest = let (s, n) = stands f at tag next e in more s (rest (next_at f at) (rw n p))
     go (Err o) e p rest = let z : ◌≡◌ {A = ℕ} 0 1 = cc in let b : ⊥ = omega arith in absurd b
 
@@ -73,7 +72,7 @@ lies f (suc k) j t (more s w) l h =
     (λ g. let e : t ≡ j = omega arith in rw e (s.header, s.within))
     (or_lt j t)
 
-pub formed : (last : ℕ) (f : List ℕ) → form last f ≡ Fine → Formed last f
+pub formed : (last : ℕ) (f : List ℕ) → form last f ≡ Ok tt → Formed last f
 unfolding past
 formed last f q =
     let w = whole f last 1 0 q in

@@ -7,7 +7,7 @@ ghost use Rattle.fields.specs.Form.{wrong_length, next_at, body_at, field_at, fo
 
 use crate::number::Number;
 use crate::tag::Tag;
-use plane::refusal::{Checked, Refusal};
+use plane::refusal::Refusal;
 
 fn is_wrong_length(tag: Tag, long: u16) -> bool
     ensures { result ≡ wrong_length (tag_number tag) long }
@@ -67,24 +67,18 @@ fn read_field(file: &[u8], at: usize, tag: Tag) -> Result<usize, Refusal>
 }
 
 // Number 8 for a file with the tags up to `last`.
-pub fn check_form(file: &[u8], last: Tag) -> Checked
+pub fn check_form(file: &[u8], last: Tag) -> Result<(), Refusal>
     ensures { result ≡ form (tag_number last) file.now }
 {
     let mut at = 0;
     for tag in &Tag::ALL[..usize::from(last.byte())] {
-        match read_field(file, at, *tag) {
-            Ok(next) => {
-                at = next;
-            }
-            Err(r) => {
-                return Checked::Refused(r);
-            }
-        }
+        at = read_field(file, at, *tag)?;
     }
     if at < file.len() {
-        return Checked::Refused(Refusal::Form(at));
+        Err(Refusal::Form(at))
+    } else {
+        Ok(())
     }
-    Checked::Fine
 }
 
 // The byte after the first k fields.

@@ -13,7 +13,13 @@ pub enum Tag {
 
 impl Tag {
     // All tags, in the order of a file.
-    pub const ALL: [Tag; 5] = [Tag::Version, Tag::Sinks, Tag::Joins, Tag::Places, Tag::Wires];
+    pub const ALL: [Tag; 5] = [
+        Tag::Version,
+        Tag::Sinks,
+        Tag::Joins,
+        Tag::Places,
+        Tag::Wires,
+    ];
 
     pub fn byte(self) -> u8
         ensures { result ≡ tag_number self }

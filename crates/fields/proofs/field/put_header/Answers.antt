@@ -1,4 +1,3 @@
-use mathlib.Core.Path.{◌∙◌}
 use native.Mathlib.Numerals.{add-one}
 use Rattle.fields.proofs.field.put_header.Goals as goal
 

@@ -1,7 +1,7 @@
 use mathlib.Core.Path.{sym, ap, ◌∙◌}
 use mathlib.Core.List.{map}
 use native.Mathlib.Omega.{arith}
-use lib.ListN.{get_or, length, length-map}
+use lib.ListN.{get_or, length-map}
 use Rattle.std.proofs.lemmas.List.{get_or-map}
 use Rattle.fields.specs.Fields.{numbers}
 use Rattle.fields.proofs.BigEndian.{length-big}

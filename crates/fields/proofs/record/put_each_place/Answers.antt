@@ -1,7 +1,6 @@
 use Prim.Native.Nat.{◌+◌, ◌*◌}
 use Rattle.std.proofs.Common.{rules}
 use native.Mathlib.Omega.{arith}
-use lib.ListN.{length}
 use Rattle.fields.specs.Fields.{places}
 use Rattle.fields.proofs.Values.{length-place}
 use Rattle.fields.proofs.Stores.{laid_begin, laid_more, laid_end, put_two}
