@@ -1,5 +1,6 @@
 // Numbers as bytes, the highest byte first, read from a slice and written to one.
-ghost use Rattle.std.specs.Prelude.{◌≡◌, ℕ, ◌+◌, ◌≤◌, length};
+ghost use Rattle.std.specs.Prelude.{◌≡◌, ℕ, ◌+◌, ◌≤◌, ◌<◌, length};
+ghost use Rattle.std.proofs.Common.{rules};
 ghost use Rattle.std.proofs.lemmas.List.Edits.{sets};
 ghost use Rattle.fields.specs.Bytes.{big, number_at, bits, signed};
 
@@ -20,6 +21,8 @@ pub trait Number: Copy {
     fn read(s: &[u8], at: usize) -> Self
         requires { at + SIZE ≤ length s.now }
         ensures { result ≡ made (number_at SIZE s.now at) };
+
+    ghost some: { 0 < SIZE };
 }
 
 impl Number for u16 {
@@ -30,6 +33,8 @@ impl Number for u16 {
     ghost whole = { λ n. n };
 
     ghost made = { λ n. n };
+
+    ghost some = { Prim.search rules };
 
     fn put(self, out: &mut [u8], at: usize) {
         out[at..at + 2].copy_from_slice(&self.to_be_bytes());
@@ -49,6 +54,8 @@ impl Number for u32 {
 
     ghost made = { λ n. n };
 
+    ghost some = { Prim.search rules };
+
     fn put(self, out: &mut [u8], at: usize) {
         out[at..at + 4].copy_from_slice(&self.to_be_bytes());
     }
@@ -67,6 +74,8 @@ impl Number for i32 {
     ghost whole = { bits };
 
     ghost made = { signed };
+
+    ghost some = { Prim.search rules };
 
     fn put(self, out: &mut [u8], at: usize) {
         self.cast_unsigned().put(out, at);

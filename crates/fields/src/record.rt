@@ -62,8 +62,15 @@ pub fn get_each<T: Number>(v: &[u8], size: usize, from: usize, ns: &mut [T])
     }
 }
 
+// How many places stand in a value.
+pub fn count_places(v: &[u8]) -> usize
+    ensures { result ≡ length (firsts v.now) }
+{
+    v.len() / 8
+}
+
 pub fn get_places(v: &[u8], xs: &mut [i32], ys: &mut [i32])
-    requires { (length v.now / 8 ≤ length xs.old) × (length v.now / 8 ≤ length ys.old) }
+    requires { (length (firsts v.now) ≤ length xs.old) × (length (firsts v.now) ≤ length ys.old) }
     ensures xs_after { xs.new ≡ front (firsts v.now) xs.old }
     ensures ys_after { ys.new ≡ front (seconds v.now) ys.old }
 {
@@ -71,8 +78,15 @@ pub fn get_places(v: &[u8], xs: &mut [i32], ys: &mut [i32])
     get_each(v, 8, 4, ys);
 }
 
+// How many numbers stand in a value.
+pub fn count<T: Number>(v: &[u8]) -> usize
+    ensures { result ≡ length (numbers_in T.SIZE v.now) }
+{
+    v.len() / T::SIZE
+}
+
 pub fn get_nodes(v: &[u8], ns: &mut [u16])
-    requires { length v.now / 2 ≤ length ns.old }
+    requires { length (numbers_in 2 v.now) ≤ length ns.old }
     ensures { ns.new ≡ front (numbers_in 2 v.now) ns.old }
 {
     get_each(v, 2, 0, ns)
