@@ -4,13 +4,9 @@ use mathlib.Core.List.{List}
 use Prim.Native.Nat.{ℕ}
 use lib.IntN.{ℤ}
 use Rattle.lists.specs.Grow.{front}
+use Rattle.plane.specs.Refusals.{Checked}
 use Rattle.plane.specs.Said.{Said, if_answered}
 use Rattle.plane.proofs.Answered.{same_values, same_refusal, not_refused}
-use Rattle.house.specs.declared.answer.Written.TheVariants.{Bytes, NotWritten}
-use Rattle.house.specs.declared.answer.Reading.TheVariants.{Sinks, NotRead}
-use Rattle.plane.specs.declared.refusal.Checked.{Checked}
-use Rattle.house.specs.declared.answer.Written.{Written}
-use Rattle.house.specs.declared.answer.Reading.{Reading}
 use Rattle.house.specs.Writing.{told_written, Writes}
 use Rattle.house.specs.Reading.{told_read, ReadsSinks, ReadsJoins}
 

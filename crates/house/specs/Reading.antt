@@ -3,12 +3,9 @@ use Rattle.std.specs.Prelude.{◌≡◌, List, ℕ, ℤ, length}
 use Rattle.lists.specs.Grow.{front}
 use Rattle.plane.specs.Said.{Said, refused_by, after, if_answered}
 use Rattle.plane.specs.Said.Said.{answered}
-use Rattle.plane.specs.Refusals.{and_then}
+use Rattle.plane.specs.Refusals.{Checked, and_then}
 use Rattle.plane.specs.Sinks.{prompt, check_sinks}
-use Rattle.plane.specs.declared.refusal.Checked.{Checked}
 use Rattle.orders.specs.Joins.{check_order}
-use Rattle.house.specs.declared.answer.Reading.{Reading}
-use Rattle.house.specs.declared.answer.Reading.TheVariants.{Sinks, NotRead}
 use Rattle.fields.specs.Fields.{firsts, seconds, numbers_in}
 use Rattle.fields.specs.Form.{form, value_of}
 use Rattle.house.specs.Writing.{room_for}
