@@ -11,7 +11,7 @@ use Rattle.lists.proofs.Front.{front_part}
 use Rattle.plane.specs.Said.{Said, if_answered}
 use Rattle.plane.specs.Said.Said.{answered}
 use Rattle.plane.proofs.Answered.{after_answered}
-use Rattle.plane.specs.Refusals.{and_then}
+use Rattle.plane.specs.Refusals.{Checked, and_then}
 use Rattle.plane.proofs.Checks.{both_pass}
 use Rattle.house.specs.Writing.{room_for, Writes}
 use Rattle.house.specs.Reading.{ReadsSinks, ReadsJoins}

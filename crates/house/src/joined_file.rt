@@ -63,11 +63,19 @@ fn check_joined_file(file: &[u8]) -> Result<(), Refusal>
     ensures { result ≡ check_joined_file file.now }
 {
     field::check_form(file, Tag::Joins)?;
-    check_values(field::value(file, Tag::Sinks), field::value(file, Tag::Joins))
+    check_values(
+        field::value(file, Tag::Sinks),
+        field::value(file, Tag::Joins),
+    )
 }
 
 // Refusal 7, else the sinks and the joins of a file that was checked, and how many sinks there are.
-pub fn take_joins(file: &[u8], xs: &mut [i32], ys: &mut [i32], js: &mut [u16]) -> Result<usize, Refusal>
+pub fn take_joins(
+    file: &[u8],
+    xs: &mut [i32],
+    ys: &mut [i32],
+    js: &mut [u16],
+) -> Result<usize, Refusal>
     requires { Formed 3 file.now }
     ensures { ReadsJoins (Ok tt) (xs_in file.now) (ys_in file.now) (joins_in file.now) xs.old ys.old js.old (told result) xs.new ys.new js.new }
 {
@@ -79,7 +87,12 @@ pub fn take_joins(file: &[u8], xs: &mut [i32], ys: &mut [i32], js: &mut [u16]) -
 }
 
 // Refusals 8, 2 to 4, 6 and 7, else the number of sinks, with their coordinates and the pairs in the lent buffers.
-pub fn read_joined(file: &[u8], xs: &mut [i32], ys: &mut [i32], js: &mut [u16]) -> Result<usize, Refusal>
+pub fn read_joined(
+    file: &[u8],
+    xs: &mut [i32],
+    ys: &mut [i32],
+    js: &mut [u16],
+) -> Result<usize, Refusal>
     ensures { ReadsJoins (check_joined_file file.now) (xs_in file.now) (ys_in file.now) (joins_in file.now) xs.old ys.old js.old (told result) xs.new ys.new js.new }
 {
     check_joined_file(file)?;
