@@ -30,6 +30,7 @@ fn next_at(file: &[u8], at: usize) -> usize
 }
 
 // The byte after the field that is due at byte `at`, whose header is whole and bears its tag.
+#[tactic(auto, using(crate::proofs::Tags::other), unfolding(crate::specs::Form::body_at))]
 fn read_value(file: &[u8], at: usize, tag: Tag) -> Result<usize, Refusal>
     requires { at + 3 ≤ length file.now }
     ensures { result ≡ body_at file.now at (tag_number tag) }
@@ -50,6 +51,7 @@ fn read_value(file: &[u8], at: usize, tag: Tag) -> Result<usize, Refusal>
 }
 
 // The byte after the field that is due at byte `at`.
+#[tactic(auto, unfolding(crate::specs::Form::field_at))]
 fn read_field(file: &[u8], at: usize, tag: Tag) -> Result<usize, Refusal>
     ensures { result ≡ field_at file.now at (tag_number tag) }
 {
@@ -82,6 +84,7 @@ pub fn check_form(file: &[u8], last: Tag) -> Result<(), Refusal>
 }
 
 // The byte after the first k fields.
+#[tactic(auto, using(crate::proofs::Scan::past_more), unfolding(crate::specs::Form::past))]
 fn past_fields(file: &[u8], k: usize) -> usize
     requires { Formed k file.now }
     ensures { result ≡ past file.now k }
