@@ -97,6 +97,7 @@ fn past_fields(file: &[u8], k: usize) -> usize
 }
 
 // The value of a tag.
+#[tactic(auto, using(crate::proofs::Tags::some, crate::proofs::Scan::formed_next))]
 pub fn value(file: &[u8], tag: Tag) -> &[u8]
     requires { Formed (tag_number tag) file.now }
     ensures { result.now ≡ value_of file.now (tag_number tag) }

@@ -63,12 +63,14 @@ pub fn get_each<T: Number>(v: &[u8], size: usize, from: usize, ns: &mut [T])
 }
 
 // How many places stand in a value.
+#[tactic(auto, using(crate::proofs::Values::length_firsts))]
 pub fn count_places(v: &[u8]) -> usize
     ensures { result ≡ length (firsts v.now) }
 {
     v.len() / 8
 }
 
+#[tactic(auto, using(crate::proofs::Values::length_firsts), unfolding(crate::specs::Fields::seconds))]
 pub fn get_places(v: &[u8], xs: &mut [i32], ys: &mut [i32])
     requires { (length (firsts v.now) ≤ length xs.old) × (length (firsts v.now) ≤ length ys.old) }
     ensures xs_after { xs.new ≡ front (firsts v.now) xs.old }
@@ -79,12 +81,14 @@ pub fn get_places(v: &[u8], xs: &mut [i32], ys: &mut [i32])
 }
 
 // How many numbers stand in a value.
+#[tactic(auto, using(crate::proofs::Values::length_numbers_in))]
 pub fn count<T: Number>(v: &[u8]) -> usize
     ensures { result ≡ length (numbers_in T.SIZE v.now) }
 {
     v.len() / T::SIZE
 }
 
+#[tactic(auto, using(crate::proofs::Values::length_numbers_in))]
 pub fn get_nodes(v: &[u8], ns: &mut [u16])
     requires { length (numbers_in 2 v.now) ≤ length ns.old }
     ensures { ns.new ≡ front (numbers_in 2 v.now) ns.old }

@@ -17,7 +17,7 @@ use Rattle.house.specs.Files.{sink_file, joined_file}
 use Rattle.fields.specs.Form.{form, value_of}
 use Rattle.house.specs.Writing.{Writes}
 use Rattle.house.specs.Reading.{xs_in, ys_in, joins_in, check_sink_file, check_joined_file, ReadsSinks, ReadsJoins}
-use Rattle.fields.proofs.Values.{length-firsts, length-seconds}
+use Rattle.fields.proofs.Values.{length_firsts, length_seconds}
 use Rattle.house.proofs.RoundTrip.{sinks_back, sinks_kept}
 use Rattle.house.proofs.JoinsTrip.{joins_back, joins_kept}
 use Rattle.house.proofs.Accepting.{FileAgain, writes_file, wrote, SinksAgain, reads_sinks, got_sinks, JoinsAgain, reads_joins, got_joins}
@@ -38,7 +38,7 @@ sinks_written_read xs ys out out' k w f lent bx by bx' by' said hx hy r =
 
 -- as many x as y stand in any file
 pub alike_in : (f : List ℕ) → length (xs_in f) ≡ length (ys_in f)
-alike_in f = length-firsts (value_of f 2) ∙ sym (length-seconds (value_of f 2))
+alike_in f = length_firsts (value_of f 2) ∙ sym (length_seconds (value_of f 2))
 
 -- read, then written: the lent lists are what the reader said, and the buffer has room for the file
 pub sinks_read_written : (f : List ℕ) → Bytes f → (bx by bx' by' : List ℤ) (n : ℕ) → ReadsSinks (check_sink_file f) (xs_in f) (ys_in f) bx by (answered n) bx' by'

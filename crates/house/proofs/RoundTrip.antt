@@ -22,7 +22,7 @@ use Rattle.fields.specs.Fields.{fields, version, places, firsts, seconds}
 use Rattle.house.specs.Files.{sink_file}
 use Rattle.fields.specs.Form.{length_at, next_at, value_at, value_of, past, form}
 use Rattle.house.specs.Reading.{xs_in, ys_in}
-use Rattle.fields.proofs.Values.{Wide, length-places, firsts_back, seconds_back, places_back}
+use Rattle.fields.proofs.Values.{Wide, length_places, firsts_back, seconds_back, places_back}
 use Rattle.fields.proofs.Scan.{one_byte}
 use Rattle.fields.proofs.Standing.{Stands, Whole, more, whole}
 use Rattle.fields.proofs.Fieldwise.{Fair, none, also, written_form, made, part_bytes, value_long}
@@ -46,7 +46,7 @@ fair-version = record { long = refl; small = omega arith; version = λ rest. ref
 
 pub fair-sinks : (xs ys : List ℤ) → length xs ≤ 1023 → Fair 2 (places xs ys)
 fair-sinks xs ys h =
-    let l = length-places xs ys in
+    let l = length_places xs ys in
     record { long = simp (eq-eqb (length (places xs ys) % 8) 0 (omega arith)); small = omega arith; version = λ rest. refl }
 
 -- ---- sink files

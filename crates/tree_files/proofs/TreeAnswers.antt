@@ -17,7 +17,7 @@ use Rattle.orders.specs.Nodes.{places_u, places_v, wires}
 use Rattle.orders.specs.Sound.{Sound}
 use Rattle.fields.specs.Fields.{firsts, seconds, numbers_in}
 use Rattle.tree_files.specs.Trees.{unlike, check_nodes}
-use Rattle.fields.proofs.Values.{length-firsts, length-numbers_in}
+use Rattle.fields.proofs.Values.{length_firsts, length_numbers_in}
 
 -- whole numbers that are one, and two
 pub equal_self : (a : ℤ) → equal a a ≡ true
@@ -64,7 +64,7 @@ module _ (xs ys : List ℤ) (js : List ℕ) where
 -- how long the values of checked sinks and joins are at most
 module _ (v w : List ℕ) (s : Sound (firsts v) (seconds v) (prompt (firsts v)) (numbers_in 2 w)) where
   pub few_sinks : length v / 8 ≤ 512
-  few_sinks = omega (arith, length-firsts v, s.joins.few)
+  few_sinks = omega (arith, length_firsts v, s.joins.few)
 
   pub few_nodes : length w / 2 ≤ 1022
-  few_nodes = omega (arith, length-numbers_in 2 w, s.joins.few, s.joins.valid.count)
+  few_nodes = omega (arith, length_numbers_in 2 w, s.joins.few, s.joins.valid.count)

@@ -28,7 +28,7 @@ use Rattle.fields.specs.Fields.{fields, version, places, numbers, firsts, second
 use Rattle.tree_files.specs.Trees.{tree_file, unlike, check_nodes, check_tags, check_tree_file}
 use Rattle.fields.specs.Form.{length_at, value_at, value_of, past, form}
 use Rattle.house.specs.Reading.{xs_in, ys_in, joins_in}
-use Rattle.fields.proofs.Values.{length-places, length-numbers, length-firsts, length-seconds, firsts_back, seconds_back, numbers_back, places_back, numbers_made}
+use Rattle.fields.proofs.Values.{length_places, length-numbers, length_firsts, length_seconds, firsts_back, seconds_back, numbers_back, places_back, numbers_made}
 use Rattle.fields.proofs.Standing.{Stands, Whole, more, whole}
 use Rattle.fields.proofs.Fieldwise.{values, Fair, none, also, written_form, made, part_bytes, value_long}
 use Rattle.house.proofs.RoundTrip.{wide, wide_x, wide_y, fair-version, fair-sinks, version_back, sinks_value}
@@ -91,7 +91,7 @@ unfolding tree_file check_tree_file check_tags past
 tree_kept f b q =
     let (a, r) = both_pass (form 5 f) _ q in
     let d = (both_pass (check_order xs ys (prompt xs) js) _ r).1 in
-    go (whole f 5 1 0 a) (nodes_same us vs ws (firsts v4) (seconds v4) (numbers_in 4 v5) (length_u xs ys js ∙ sym (length_v xs ys js)) (length_u xs ys js ∙ sym (length-wires xs ys js)) (length-firsts v4 ∙ sym (length-seconds v4)) d)
+    go (whole f 5 1 0 a) (nodes_same us vs ws (firsts v4) (seconds v4) (numbers_in 4 v5) (length_u xs ys js ∙ sym (length_v xs ys js)) (length_u xs ys js ∙ sym (length-wires xs ys js)) (length_firsts v4 ∙ sym (length_seconds v4)) d)
   where
     xs : List ℤ
     xs = xs_in f
@@ -117,7 +117,7 @@ tree_kept f b q =
     v5 : List ℕ
     v5 = value_of f 5
 
-    go : Whole f 5 1 0 → Alike us vs ws (firsts v4) (seconds v4) (numbers_in 4 v5) (length_u xs ys js ∙ sym (length_v xs ys js)) (length_u xs ys js ∙ sym (length-wires xs ys js)) (length-firsts v4 ∙ sym (length-seconds v4)) → tree_file xs ys js ≡ f
+    go : Whole f 5 1 0 → Alike us vs ws (firsts v4) (seconds v4) (numbers_in 4 v5) (length_u xs ys js ∙ sym (length_v xs ys js)) (length_u xs ys js ∙ sym (length-wires xs ys js)) (length_firsts v4 ∙ sym (length_seconds v4)) → tree_file xs ys js ≡ f
     go (more s (more t (more u (more x (more y w))))) l =
         let p1 = version_back f b 0 s in
         let p2 = sinks_value f b (past f 1) t in
@@ -142,7 +142,7 @@ nodes_fine us vs ws w = sym (nodes-alike us vs ws us vs ws refl (sym w) refl (�
 
 fair-places : (us vs : List ℤ) → length us ≤ 1023 → Fair 4 (places us vs)
 fair-places us vs h =
-    let l = length-places us vs in
+    let l = length_places us vs in
     record { long = simp (eq-eqb (length (places us vs) % 8) 0 (omega arith)); small = omega arith; version = λ rest. refl }
 
 fair-wires : (ws : List ℕ) → length ws ≤ 1023 → Fair 5 (numbers 4 ws)
