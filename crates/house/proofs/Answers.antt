@@ -38,9 +38,6 @@ module _ {fx fy xs ys : List ℤ} where
   no_room_x {r} e = record { answers = rw e; writes_x = refl; writes_y = refl }
 
   module _ (h : room_for (length fx) (length xs) ≡ Ok tt) where
-    pub no_room_y : {r : Refusal} → room_for (length fx) (length ys) ≡ Err r → ReadsSinks (Ok tt) fx fy xs ys (refused_by r) xs ys
-    no_room_y {r} e = record { answers = rw (h, e); writes_x = refl; writes_y = refl }
-
     pub sinks_read : {n : ℕ} {xs' ys' : List ℤ} → room_for (length fx) (length ys) ≡ Ok tt → n ≡ length fx → xs' ≡ front fx xs → ys' ≡ front fy ys → ReadsSinks (Ok tt) fx fy xs ys (answered n) xs' ys'
     sinks_read {n} {xs'} {ys'} g e p q = record { answers = rw (h, g, e); writes_x = p; writes_y = q }
 

@@ -1,19 +1,16 @@
 -- The outcomes of a reader of sinks and joins, one law for each.
 use mathlib.Core.Path.{◌≡◌, refl, ◌∙◌}
-use mathlib.Core.Bool.{Bool, true, false}
 use mathlib.Core.List.{List}
 use Prim.Native.Nat.{ℕ, ◌-◌, ◌*◌, ◌/◌, ◌≤◌, ◌<◌, min}
 use native.Mathlib.Omega.{arith}
 use borrow.Author.Tests.{ne_eqb}
 use Rattle.std.specs.Prelude.{Ok, Err}
-use lib.Dec.{ltb}
 use lib.IntN.{ℤ}
 use lib.ListN.{length}
 use Rattle.lists.specs.Grow.{front}
-use Rattle.plane.specs.Said.{Said, refused_by, after, if_answered}
-use Rattle.plane.specs.Refusals.{Checked, refuse_if, and_then}
-use Rattle.plane.specs.declared.refusal.Refusal.{Refusal}
-use Rattle.plane.specs.declared.refusal.Refusal.TheVariants.{Joins, Room}
+use Rattle.plane.specs.Said.{Said, if_answered}
+use Rattle.plane.specs.Refusals.{Checked, and_then}
+use Rattle.plane.specs.declared.refusal.Refusal.TheVariants.{Joins}
 use Rattle.orders.specs.Joins.{check_joins}
 use Rattle.house.specs.Writing.{room_for}
 use Rattle.house.specs.Reading.{ReadsSinks, ReadsJoins}
@@ -22,20 +19,7 @@ and_ok : (c : Checked) → and_then c (Ok tt) ≡ c
 and_ok (Ok u) = refl
 and_ok (Err r) = refl
 
-not_err : (r : Refusal) → ◌≡◌ {A = Checked} (Ok tt) (Err r) → ⊥
-not_err r q = cc
-
 module _ {fx fy : List ℤ} {fj : List ℕ} {xs ys : List ℤ} {js : List ℕ} where
-  -- every lent buffer that is too short is refused alike
-  pub no_room_j : {r : Refusal} → room_for (length fj) (length js) ≡ Err r → ReadsJoins (Ok tt) fx fy fj xs ys js (refused_by r) xs ys js
-  no_room_j {r} e = record { answers = go (ltb (length xs) (length fx)) (ltb (length ys) (length fx)) (ltb (length js) (length fj)) e; writes_x = refl; writes_y = refl; writes_j = refl }
-    where
-      go : (a b c : Bool) → refuse_if c Room (Ok tt) ≡ Err r → refused_by r ≡ after (and_then (refuse_if a Room (Ok tt)) (and_then (refuse_if b Room (Ok tt)) (refuse_if c Room (Ok tt)))) (length fx)
-      go a b false q = absurd (not_err r q)
-      go true b true q = let e : r ≡ Room = cc in rw e
-      go false true true q = let e : r ≡ Room = cc in rw e
-      go false false true q = let e : r ≡ Room = cc in rw e
-
   pub joins_read : {said : Said ℕ} {xs' ys' : List ℤ} {js' : List ℕ} → room_for (length fj) (length js) ≡ Ok tt → ReadsSinks (Ok tt) fx fy xs ys said xs' ys' → js' ≡ front (if_answered said fj) js → ReadsJoins (Ok tt) fx fy fj xs ys js said xs' ys' js'
   joins_read {said} {xs'} {ys'} {js'} e s q = record { answers = s.answers ∙ rw (e, and_ok); writes_x = s.writes_x; writes_y = s.writes_y; writes_j = q }
 

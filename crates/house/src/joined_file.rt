@@ -51,6 +51,7 @@ fn check_pairs(v: &[u8], n: usize) -> Result<(), Refusal>
 }
 
 // Refusals 2 to 4 and 6, of the values of tags 2 and 3.
+#[tactic(auto, using(plane::proofs::Checks::accepted), unfolding(orders::specs::Joins::check_order))]
 pub fn check_values(v2: &[u8], v3: &[u8]) -> Result<(), Refusal>
     ensures { result ≡ check_order (firsts v2.now) (seconds v2.now) (prompt (firsts v2.now)) (numbers_in 2 v3.now) }
 {
@@ -59,6 +60,7 @@ pub fn check_values(v2: &[u8], v3: &[u8]) -> Result<(), Refusal>
 }
 
 // Refusals 8, 2 to 4 and 6.
+#[tactic(auto, using(fields::proofs::Standing::formed), unfolding(crate::specs::Reading::check_joined_file))]
 fn check_joined_file(file: &[u8]) -> Result<(), Refusal>
     ensures { result ≡ check_joined_file file.now }
 {
@@ -70,6 +72,7 @@ fn check_joined_file(file: &[u8]) -> Result<(), Refusal>
 }
 
 // Refusal 7, else the sinks and the joins of a file that was checked, and how many sinks there are.
+#[tactic(auto, using(fields::proofs::Scan::formed_less, crate::proofs::JoinsAnswers::joins_read))]
 pub fn take_joins(
     file: &[u8],
     xs: &mut [i32],
@@ -87,6 +90,7 @@ pub fn take_joins(
 }
 
 // Refusals 8, 2 to 4, 6 and 7, else the number of sinks, with their coordinates and the pairs in the lent buffers.
+#[tactic(auto, using(fields::proofs::Standing::formed, plane::proofs::Checks::both_pass), unfolding(crate::specs::Reading::check_joined_file))]
 pub fn read_joined(
     file: &[u8],
     xs: &mut [i32],

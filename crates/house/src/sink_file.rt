@@ -58,6 +58,7 @@ pub(crate) fn check_places(v: &[u8]) -> Result<(), Refusal>
 }
 
 // Refusals 8 and 2 to 4.
+#[tactic(auto, using(fields::proofs::Standing::formed), unfolding(crate::specs::Reading::check_sink_file))]
 fn check_sink_file(file: &[u8]) -> Result<(), Refusal>
     ensures { result ≡ check_sink_file file.now }
 {
@@ -79,6 +80,7 @@ pub(crate) fn take_sinks(file: &[u8], xs: &mut [i32], ys: &mut [i32]) -> Result<
 }
 
 // Refusals 8, 2 to 4 and 7, else the number of sinks, with their coordinates in the lent buffers.
+#[tactic(auto, using(fields::proofs::Standing::formed, plane::proofs::Checks::both_pass), unfolding(crate::specs::Reading::check_sink_file))]
 pub fn read_sinks(file: &[u8], xs: &mut [i32], ys: &mut [i32]) -> Result<usize, Refusal>
     ensures { ReadsSinks (check_sink_file file.now) (xs_in file.now) (ys_in file.now) xs.old ys.old (told result) xs.new ys.new }
 {

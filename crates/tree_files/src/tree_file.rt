@@ -113,6 +113,7 @@ fn check_tag_values(v2: &[u8], v3: &[u8], v4: &[u8], v5: &[u8]) -> Result<(), Re
 }
 
 // Refusals 8, 2 to 4, 6 and 9.
+#[tactic(auto, using(orders::proofs::Bounded::order_sound), unfolding(crate::specs::Trees::check_tree_file))]
 fn check_tree_file(file: &[u8]) -> Result<(), Refusal>
     ensures { result ≡ check_tree_file file.now }
 {
@@ -129,6 +130,7 @@ fn check_tree_file(file: &[u8]) -> Result<(), Refusal>
 }
 
 // Refusals 8, 2 to 4, 6, 9 and 7, else the number of sinks, with their coordinates and the pairs in the lent buffers.
+#[tactic(auto, using(fields::proofs::Standing::formed, fields::proofs::Scan::formed_less, plane::proofs::Checks::both_pass), unfolding(crate::specs::Trees::check_tree_file))]
 pub fn read_tree(
     file: &[u8],
     xs: &mut [i32],
