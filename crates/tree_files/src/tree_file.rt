@@ -98,6 +98,7 @@ fn check_tags(xs: &[i32], ys: &[i32], js: &[u16], v4: &[u8], v5: &[u8]) -> Resul
 }
 
 // Refusal 9, of the values of tags 2 to 5, of which the first two were checked.
+#[tactic(auto, using(lists::proofs::Front::front_part, fields::proofs::Values::length_firsts, fields::proofs::Values::length_seconds))]
 fn check_tag_values(v2: &[u8], v3: &[u8], v4: &[u8], v5: &[u8]) -> Result<(), Refusal>
     requires { Sound (firsts v2.now) (seconds v2.now) (prompt (firsts v2.now)) (numbers_in 2 v3.now) }
     ensures { result ≡ check_tags (firsts v2.now) (seconds v2.now) (numbers_in 2 v3.now) v4.now v5.now }
@@ -113,7 +114,7 @@ fn check_tag_values(v2: &[u8], v3: &[u8], v4: &[u8], v5: &[u8]) -> Result<(), Re
 }
 
 // Refusals 8, 2 to 4, 6 and 9.
-#[tactic(auto, using(orders::proofs::Bounded::order_sound), unfolding(crate::specs::Trees::check_tree_file))]
+#[tactic(auto, unfolding(crate::specs::Trees::check_tree_file))]
 fn check_tree_file(file: &[u8]) -> Result<(), Refusal>
     ensures { result ≡ check_tree_file file.now }
 {
@@ -130,7 +131,6 @@ fn check_tree_file(file: &[u8]) -> Result<(), Refusal>
 }
 
 // Refusals 8, 2 to 4, 6, 9 and 7, else the number of sinks, with their coordinates and the pairs in the lent buffers.
-#[tactic(auto, using(fields::proofs::Standing::formed, fields::proofs::Scan::formed_less, plane::proofs::Checks::both_pass), unfolding(crate::specs::Trees::check_tree_file))]
 pub fn read_tree(
     file: &[u8],
     xs: &mut [i32],
