@@ -37,6 +37,7 @@ pub fn write_joined(xs: &[i32], ys: &[i32], js: &[u16], out: &mut [u8]) -> Resul
 }
 
 // Refusal 6, of the pairs in a value, for n sinks.
+#[tactic(auto, using(lists::proofs::Front::front_part))]
 fn check_pairs(v: &[u8], n: usize) -> Result<(), Refusal>
     requires { (0 < n) × (n ≤ 512) }
     ensures { result ≡ check_joins n (numbers_in 2 v.now) }

@@ -44,6 +44,7 @@ pub fn write_sinks(xs: &[i32], ys: &[i32], out: &mut [u8]) -> Result<usize, Refu
 }
 
 // Refusals 2 to 4, of the sinks in a value of places.
+#[tactic(auto, using(lists::proofs::Front::front_part, fields::proofs::Values::length_firsts, fields::proofs::Values::length_seconds, plane::proofs::Checks::check_prompt, crate::proofs::Answers::too_many))]
 pub(crate) fn check_places(v: &[u8]) -> Result<(), Refusal>
     ensures { result ≡ check_sinks 512 (firsts v.now) (seconds v.now) (prompt (firsts v.now)) }
 {

@@ -58,8 +58,8 @@ module _ (xs ys : List ℤ) (js : List ℕ) where
   pub length_v : length (places_v (sinks_at xs ys (prompt xs)) js) ≡ 2 * length xs - 1
   length_v = length-grow _ (2 * length xs - 1)
 
-  pub length-wires : length (wires (sinks_at xs ys (prompt xs)) js) ≡ 2 * length xs - 1
-  length-wires = length-grow _ (2 * length xs - 1)
+  pub length_wires : length (wires (sinks_at xs ys (prompt xs)) js) ≡ 2 * length xs - 1
+  length_wires = length-grow _ (2 * length xs - 1)
 
 -- how long the values of checked sinks and joins are at most
 module _ (v w : List ℕ) (s : Sound (firsts v) (seconds v) (prompt (firsts v)) (numbers_in 2 w)) where

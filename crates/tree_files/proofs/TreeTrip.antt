@@ -33,7 +33,7 @@ use Rattle.fields.proofs.Standing.{Stands, Whole, more, whole}
 use Rattle.fields.proofs.Fieldwise.{values, Fair, none, also, written_form, made, part_bytes, value_long}
 use Rattle.house.proofs.RoundTrip.{wide, wide_x, wide_y, fair-version, fair-sinks, version_back, sinks_value}
 use Rattle.house.proofs.JoinsTrip.{small_nodes, fair-nodes, nodes_value}
-use Rattle.tree_files.proofs.TreeAnswers.{equal_self, nodes-alike, length_u, length_v, length-wires}
+use Rattle.tree_files.proofs.TreeAnswers.{equal_self, nodes-alike, length_u, length_v, length_wires}
 
 -- ---- tags 4 and 5 that pass are what embedding gives
 equal_is : (a b : ℤ) → T (equal a b) → a ≡ b
@@ -91,7 +91,7 @@ unfolding tree_file check_tree_file check_tags past
 tree_kept f b q =
     let (a, r) = both_pass (form 5 f) _ q in
     let d = (both_pass (check_order xs ys (prompt xs) js) _ r).1 in
-    go (whole f 5 1 0 a) (nodes_same us vs ws (firsts v4) (seconds v4) (numbers_in 4 v5) (length_u xs ys js ∙ sym (length_v xs ys js)) (length_u xs ys js ∙ sym (length-wires xs ys js)) (length_firsts v4 ∙ sym (length_seconds v4)) d)
+    go (whole f 5 1 0 a) (nodes_same us vs ws (firsts v4) (seconds v4) (numbers_in 4 v5) (length_u xs ys js ∙ sym (length_v xs ys js)) (length_u xs ys js ∙ sym (length_wires xs ys js)) (length_firsts v4 ∙ sym (length_seconds v4)) d)
   where
     xs : List ℤ
     xs = xs_in f
@@ -117,7 +117,7 @@ tree_kept f b q =
     v5 : List ℕ
     v5 = value_of f 5
 
-    go : Whole f 5 1 0 → Alike us vs ws (firsts v4) (seconds v4) (numbers_in 4 v5) (length_u xs ys js ∙ sym (length_v xs ys js)) (length_u xs ys js ∙ sym (length-wires xs ys js)) (length_firsts v4 ∙ sym (length_seconds v4)) → tree_file xs ys js ≡ f
+    go : Whole f 5 1 0 → Alike us vs ws (firsts v4) (seconds v4) (numbers_in 4 v5) (length_u xs ys js ∙ sym (length_v xs ys js)) (length_u xs ys js ∙ sym (length_wires xs ys js)) (length_firsts v4 ∙ sym (length_seconds v4)) → tree_file xs ys js ≡ f
     go (more s (more t (more u (more x (more y w))))) l =
         let p1 = version_back f b 0 s in
         let p2 = sinks_value f b (past f 1) t in
@@ -169,7 +169,7 @@ tree_back xs ys js q =
     let ws = wires sinks js in
     let lu = length_u xs ys js in
     let lv = length_v xs ys js in
-    let lw = length-wires xs ys js in
+    let lw = length_wires xs ys js in
     let all = version ∷ places xs ys ∷ numbers 2 js ∷ places us vs ∷ numbers 4 ws ∷ [] in
     let (a, b) = written_form (fields 1 all) [] 0 1 all refl refl (also fair-version (also (fair-sinks xs ys (omega arith)) (also (fair-nodes (length xs) js o) (also (fair-places us vs (omega arith)) (also (fair-wires ws (omega arith)) none))))) in
     let e2 : value_of (tree_file xs ys js) 2 ≡ places xs ys = cc in
