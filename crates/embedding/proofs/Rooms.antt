@@ -5,10 +5,10 @@ use borrow.Author.Tests.{ltb-false}
 use lib.Dec.{ltb}
 use Rattle.plane.proofs.Checks.{passed}
 use Rattle.plane.specs.declared.refusal.Refusal.TheVariants.{Room}
-use Rattle.plane.specs.declared.refusal.Checked.TheVariants.{Fine}
+use Rattle.std.specs.Prelude.{Ok}
 use Rattle.embedding.specs.Embedding.{check_room}
 
-pub has_room : (m ru rv rw : ℕ) → check_room m ru rv rw ≡ Fine → (m ≤ ru) × (m ≤ rv) × (m ≤ rw)
+pub has_room : (m ru rv rw : ℕ) → check_room m ru rv rw ≡ Ok tt → (m ≤ ru) × (m ≤ rv) × (m ≤ rw)
 has_room m ru rv rw e =
     let (a, p) = passed (ltb ru m) Room _ e in
     let (b, q) = passed (ltb rv m) Room _ p in

@@ -12,7 +12,7 @@ use Rattle.zero_skew.proofs.DeferredMerge.{is_deferred_merge}
 use Rattle.zero_skew.proofs.Embedding.{embedded_zero_skew, embedded-paths, embedded-wire}
 use Rattle.zero_skew.proofs.LeastForOrder.{least_for_order}
 use Rattle.plane.specs.Sinks.{sinks_at, prompt}
-use Rattle.plane.specs.declared.refusal.Checked.TheVariants.{Fine}
+use Rattle.std.specs.Prelude.{Ok}
 use Rattle.plane.specs.Said.Said.{answered}
 use Rattle.plane.proofs.Answered.{after_answered}
 use Rattle.orders.specs.Nodes.{node, value, wire, total}
@@ -68,7 +68,7 @@ embeds_level xs ys delays js us vs ws t us' vs' ws' sound e =
 -- from the contract of `embed` alone
 module _ (xs ys : List ℤ) (delays js : List ℕ) (us vs : List ℤ) (ws : List ℕ) (t : ℕ) (us' vs' : List ℤ) (ws' : List ℕ)
     (call : Permitted xs ys delays js us vs ws (answered t) us' vs' ws') where
-  shown : (check_order xs ys delays js ≡ Fine) × (t ≡ total (sinks_at xs ys delays) js)
+  shown : (check_order xs ys delays js ≡ Ok tt) × (t ≡ total (sinks_at xs ys delays) js)
   unfolding answer
   shown =
       let rooms = check_room (2 * length xs - 1) (length us) (length vs) (length ws) in

@@ -3,19 +3,12 @@ ghost use Rattle.std.specs.Prelude.{◌≤◌, length};
 ghost use Rattle.plane.specs.Sinks.{prompt};
 ghost use Rattle.embedding.specs.Ready.{Ready, Embeds};
 ghost use Rattle.orders.specs.Arrays.{NodeRoom};
-ghost use Rattle.embedding.specs.Embedding.{told_tree};
+ghost use Rattle.plane.specs.Said.{told};
 ghost use Rattle.embedding.specs.Permitted.{Permitted};
 
 use crate::{places, room, wires};
 use orders::{check, nodes};
-use plane::refusal::{Checked, Refusal};
-
-// What embedding comes to: the total, or a refusal.
-#[derive(Clone, Copy)]
-pub enum Embedded {
-    Tree(u32),
-    NoTree(Refusal),
-}
+use plane::refusal::Refusal;
 
 // The same as `embed_sound`, in lent arrays: boxes, diameters and parents.
 fn embed_in(
@@ -100,6 +93,7 @@ pub fn embed_prompt(
 }
 
 // Refusals 1 to 4, 15, 6 and 7 in order, else the total, with the places and the wires in the lent buffers.
+#[tactic(auto, unfolding(crate::specs::Embedding::answer))]
 pub fn embed(
     xs: &[i32],
     ys: &[i32],
@@ -108,16 +102,10 @@ pub fn embed(
     us: &mut [i32],
     vs: &mut [i32],
     ws: &mut [u32],
-) -> Embedded
-    ensures { Permitted xs.now ys.now delays.now js.now us.old vs.old ws.old (told_tree result) us.new vs.new ws.new }
+) -> Result<u32, Refusal>
+    ensures { Permitted xs.now ys.now delays.now js.now us.old vs.old ws.old (told result) us.new vs.new ws.new }
 {
-    let said = check::check_order(xs, ys, delays, js);
-    if let Checked::Refused(r) = said {
-        return Embedded::NoTree(r);
-    }
-    let rooms = room::check_room(2 * xs.len() - 1, us.len(), vs.len(), ws.len());
-    if let Checked::Refused(r) = rooms {
-        return Embedded::NoTree(r);
-    }
-    Embedded::Tree(embed_sound(xs, ys, delays, js, us, vs, ws))
+    check::check_order(xs, ys, delays, js)?;
+    room::check_room(2 * xs.len() - 1, us.len(), vs.len(), ws.len())?;
+    Ok(embed_sound(xs, ys, delays, js, us, vs, ws))
 }

@@ -2,20 +2,20 @@
 ghost use Rattle.std.specs.Prelude.{◌≡◌};
 ghost use Rattle.embedding.specs.Embedding.{check_room};
 
-use plane::refusal::{Checked, Refusal};
+use plane::refusal::Refusal;
 
 // Room for all nodes in the buffers of U, V and wires.
-pub fn check_room(all: usize, us: usize, vs: usize, ws: usize) -> Checked
+pub fn check_room(all: usize, us: usize, vs: usize, ws: usize) -> Result<(), Refusal>
     ensures { result ≡ check_room all us vs ws }
 {
     if us < all {
-        return Checked::Refused(Refusal::Room);
+        return Err(Refusal::Room);
     }
     if vs < all {
-        return Checked::Refused(Refusal::Room);
+        return Err(Refusal::Room);
     }
     if ws < all {
-        return Checked::Refused(Refusal::Room);
+        return Err(Refusal::Room);
     }
-    Checked::Fine
+    Ok(())
 }

@@ -9,7 +9,7 @@ use lib.Dec.{eqb}
 use lib.ListN.{length, get_or, length-drop}
 use lib.Seq.{get_or-drop}
 use Rattle.zero_skew.specs.Plane.{Sinks}
-use Rattle.plane.specs.declared.refusal.Checked.TheVariants.{Fine}
+use Rattle.std.specs.Prelude.{Ok}
 use Rattle.orders.specs.Joins.{check_joins, Valid}
 use Rattle.orders.proofs.Accepted.{joins_accepted}
 use Rattle.partners.specs.declared.pair.Pair.{Pair}
@@ -128,5 +128,5 @@ order_rising s n h i l =
     (pairs_at i t.pairs (omega (arith, t.size))).0
 
 -- the embedding cannot refuse it
-pub order_accepted : (s : Sinks) (n : ℕ) → 0 < n → check_joins n (order s n) ≡ Fine
+pub order_accepted : (s : Sinks) (n : ℕ) → 0 < n → check_joins n (order s n) ≡ Ok tt
 order_accepted s n h = joins_accepted n (order s n) (order-valid s n h)

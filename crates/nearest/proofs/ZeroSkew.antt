@@ -6,7 +6,7 @@ use lib.IntN.{ℤ}
 use lib.ListN.{length}
 use Rattle.plane.specs.Said.Said.{answered}
 use Rattle.plane.specs.Sinks.{sinks_at}
-use Rattle.plane.specs.declared.refusal.Checked.TheVariants.{Fine}
+use Rattle.std.specs.Prelude.{Ok}
 use Rattle.orders.specs.Nodes.{total}
 use Rattle.orders.specs.Joins.{check_order}
 use Rattle.embedding.specs.Embedding.{check_room, answer}
@@ -23,7 +23,7 @@ use Rattle.nearest.proofs.Validity.{order_accepted}
 module _ {xs ys : List ℤ} {delays js : List ℕ} {us vs : List ℤ} {ws : List ℕ} {t : ℕ} {js' : List ℕ} {us' vs' : List ℤ} {ws' : List ℕ} where
   -- what an answer with a tree says: both checks are passed, and which total it is
   pub tree_said_lem : Embedding xs ys delays js us vs ws (answered t) js' us' vs' ws'
-      → (check_nearest xs ys delays (length js) ≡ Fine) × (check_room (2 * length xs - 1) (length us) (length vs) (length ws) ≡ Fine) × (t ≡ total (sinks_at xs ys delays) (order_at xs ys delays))
+      → (check_nearest xs ys delays (length js) ≡ Ok tt) × (check_room (2 * length xs - 1) (length us) (length vs) (length ws) ≡ Ok tt) × (t ≡ total (sinks_at xs ys delays) (order_at xs ys delays))
   unfolding tree_answer
   tree_said_lem p =
       let rooms = check_room (2 * length xs - 1) (length us) (length vs) (length ws) in

@@ -1,17 +1,11 @@
 -- What the two calls may do: the answer, and what each lent buffer holds after it.
-use Rattle.std.specs.Prelude.{◌≡◌, List, ℕ, ◌-◌, ◌*◌, ltb, ℤ, length}
+use Rattle.std.specs.Prelude.{◌≡◌, List, ℕ, ◌-◌, ◌*◌, ltb, ℤ, length, None, Ok}
 use Rattle.lists.specs.Grow.{front}
-use Rattle.plane.specs.Said.{Said, refused_by, after, if_answered, told_check}
-use Rattle.plane.specs.Said.Said.{answered}
-use Rattle.plane.specs.Refusals.{refusal, refuse_if, and_then}
+use Rattle.plane.specs.Said.{Said, after, if_answered, told}
+use Rattle.plane.specs.Refusals.{Checked, refusal, refuse_if, and_then}
 use Rattle.plane.specs.Sinks.{sinks_at, check_sinks}
-use Rattle.plane.specs.declared.refusal.Place.TheVariants.{None}
-use Rattle.plane.specs.declared.refusal.Checked.{Checked}
-use Rattle.plane.specs.declared.refusal.Checked.TheVariants.{Fine}
 use Rattle.orders.specs.Nodes.{places_u, places_v, wires, total}
 use Rattle.embedding.specs.Embedding.{check_room}
-use Rattle.nearest.specs.declared.order.Joined.{Joined}
-use Rattle.nearest.specs.declared.order.Joined.TheVariants.{Order, NoOrder}
 use Rattle.nearest.specs.Nearest.{order}
 
 -- the joining order of the sinks that three lists give
@@ -20,16 +14,11 @@ order_at xs ys delays = order (sinks_at xs ys delays) (length xs)
 
 -- ---- joining: refusals 1 to 4 and 15, then 7, where the lent buffer has room for so many node numbers
 unfoldable pub check_nearest : List ℤ → List ℤ → List ℕ → ℕ → Checked
-check_nearest xs ys delays room = and_then (check_sinks 512 xs ys delays) (refuse_if (ltb room (2 * (length xs - 1))) (refusal 7 None) Fine)
-
--- what the enum says: that there is an order, or a refusal's number and place
-abbrev pub told_order : Joined → Said (Unit {0})
-told_order Order = answered tt
-told_order (NoOrder r) = refused_by r
+check_nearest xs ys delays room = and_then (check_sinks 512 xs ys delays) (refuse_if (ltb room (2 * (length xs - 1))) (refusal 7 None) (Ok tt))
 
 -- the sinks, the buffer before, the answer, the buffer after
 pub record Joining (xs ys : List ℤ) (delays js : List ℕ) (said : Said (Unit {0})) (js' : List ℕ) : Type 0 where
-  pub answers : said ≡ told_check (check_nearest xs ys delays (length js))
+  pub answers : said ≡ told (check_nearest xs ys delays (length js))
   pub writes : js' ≡ front (if_answered said (order_at xs ys delays)) js
 
 -- ---- joining and embedding: refusals 1 to 4 and 15, then 7 over the four buffers; else the total

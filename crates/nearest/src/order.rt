@@ -2,24 +2,18 @@
 ghost use Rattle.std.specs.Prelude.{◌≡◌, ◌+◌, ◌*◌, ◌<◌, length, set};
 ghost use Rattle.lists.specs.Grow.{front};
 ghost use Rattle.measures.specs.Boxes.{hull_of};
+ghost use Rattle.plane.specs.Said.{told};
 ghost use Rattle.orders.specs.Table.{box_at, Boxed, Puts};
 ghost use Rattle.nearest.specs.Rounds.{Open, Round};
-ghost use Rattle.nearest.specs.Calls.{order_at, check_nearest, Joining, told_order};
+ghost use Rattle.nearest.specs.Calls.{order_at, check_nearest, Joining};
 ghost use Rattle.nearest.specs.Ready.{CanJoin};
 
 use crate::keep;
 use orders::{joins, table};
 use partners::pair::Pair;
 use partners::{best, live};
-use plane::refusal::{Checked, Refusal};
+use plane::refusal::Refusal;
 use plane::sinks;
-
-// What joining by least diameter comes to.
-#[derive(Clone, Copy)]
-pub enum Joined {
-    Order,
-    NoOrder(Refusal),
-}
 
 // Pair i, the lower number first.
 fn write_pair(js: &mut [u16], i: usize, p: Pair)
@@ -73,27 +67,22 @@ pub fn order_sound(xs: &[i32], ys: &[i32], delays: &[u32], js: &mut [u16])
 }
 
 // Refusals 1 to 4 and 15, and 7 where the buffer of joins is too short.
-pub fn check_nearest(xs: &[i32], ys: &[i32], delays: &[u32], room: usize) -> Checked
+#[tactic(auto, unfolding(crate::specs::Calls::check_nearest))]
+pub fn check_nearest(xs: &[i32], ys: &[i32], delays: &[u32], room: usize) -> Result<(), Refusal>
     ensures { result ≡ check_nearest xs.now ys.now delays.now room }
 {
-    let said = sinks::check_sinks(xs, ys, delays, 512);
-    if let Checked::Refused(r) = said {
-        return Checked::Refused(r);
-    }
+    sinks::check_sinks(xs, ys, delays, 512)?;
     if room < 2 * (xs.len() - 1) {
-        return Checked::Refused(Refusal::Room);
+        return Err(Refusal::Room);
     }
-    Checked::Fine
+    Ok(())
 }
 
 // Refusals 1 to 4, 15 and 7, else the joining order in the lent buffer.
-pub fn join_nearest(xs: &[i32], ys: &[i32], delays: &[u32], js: &mut [u16]) -> Joined
-    ensures { Joining xs.now ys.now delays.now js.old (told_order result) js.new }
+pub fn join_nearest(xs: &[i32], ys: &[i32], delays: &[u32], js: &mut [u16]) -> Result<(), Refusal>
+    ensures { Joining xs.now ys.now delays.now js.old (told result) js.new }
 {
-    let said = check_nearest(xs, ys, delays, js.len());
-    if let Checked::Refused(r) = said {
-        return Joined::NoOrder(r);
-    }
+    check_nearest(xs, ys, delays, js.len())?;
     order_sound(xs, ys, delays, js);
-    Joined::Order
+    Ok(())
 }

@@ -12,7 +12,7 @@ use Rattle.lists.proofs.Tests.{or_lt}
 use Rattle.lists.proofs.First.{any_no}
 use Rattle.plane.proofs.Checks.{passed}
 use Rattle.plane.specs.declared.refusal.Refusal.TheVariants.{Joins}
-use Rattle.plane.specs.declared.refusal.Checked.TheVariants.{Fine}
+use Rattle.std.specs.Prelude.{Ok}
 use Rattle.orders.specs.Joins.{left, right, named, bad_pair, first_bad, check_joins, Valid}
 use Rattle.lists.proofs.Any.{any_none}
 use Rattle.orders.proofs.Flags.{or_no}
@@ -58,7 +58,7 @@ module _ (n : ℕ) (js : List ℕ) where
         (λ r. let z : i ≡ 2 * (j / 2) = omega arith in f.differ (ap (λ (m : ℕ). get_or js m 0) (sym z) ∙ e ∙ ap (λ (m : ℕ). get_or js m 0) q))
         (or_lt i (2 * (j / 2))))
 
-  pub joins-valid : check_joins n js ≡ Fine → Valid n js
+  pub joins-valid : check_joins n js ≡ Ok tt → Valid n js
   unfolding check_joins
   joins-valid q =
       let (a, r) = passed (not (eqb (length js) (2 * (n - 1)))) (Joins (min (length js / 2) (n - 1))) _ q in
@@ -86,6 +86,6 @@ module _ (n : ℕ) (js : List ℕ) where
         new w i (2 * i + 1) (omega arith) (omega arith),
       )
 
-  pub joins_accepted : Valid n js → check_joins n js ≡ Fine
+  pub joins_accepted : Valid n js → check_joins n js ≡ Ok tt
   unfolding check_joins
   joins_accepted w = rw (eq-eqb (length js) (2 * (n - 1)) w.count, any_none (bad_pair n js) (n - 1) (not_bad w))

@@ -13,7 +13,7 @@ use Rattle.zero_skew.specs.Plane.{Sinks}
 use Rattle.zero_skew.specs.Box.{diameter}
 use Rattle.zero_skew.proofs.Lemma1.{diam_met, diam_none}
 use Rattle.plane.specs.Sinks.{sinks_at, prompt, check_sinks, Ranged}
-use Rattle.plane.specs.declared.refusal.Checked.TheVariants.{Fine}
+use Rattle.std.specs.Prelude.{Ok}
 use Rattle.plane.proofs.Checks.{both_pass, accepted, fitting}
 use Rattle.plane.proofs.Spread.{Spread, far, diameter_spread, ranged_spread}
 use Rattle.orders.specs.Nodes.{below, d, total}
@@ -60,14 +60,14 @@ no_delay_bounded {xs} {ys} {delays} {js} e =
 pub sound : {xs ys : List ℤ} {delays js : List ℕ} → Ranged xs ys delays → Ordered (length xs) js → Sound xs ys delays js
 sound r o = record { sinks = fitting r; joins = o; low = omega (arith, total_bounded r o) }
 
-pub order-ranged : (xs ys : List ℤ) (delays js : List ℕ) → check_order xs ys delays js ≡ Fine → Ranged xs ys delays × Ordered (length xs) js
+pub order-ranged : (xs ys : List ℤ) (delays js : List ℕ) → check_order xs ys delays js ≡ Ok tt → Ranged xs ys delays × Ordered (length xs) js
 unfolding check_order
 order-ranged xs ys delays js e =
     let (p, q) = both_pass (check_sinks 512 xs ys delays) (check_joins (length xs) js) e in
     let m = accepted 512 xs ys delays p in
     (m.ranged, record { some = m.some; few = m.few; valid = joins-valid (length xs) js q })
 
-pub order-sound : (xs ys : List ℤ) (delays js : List ℕ) → check_order xs ys delays js ≡ Fine → Sound xs ys delays js
+pub order-sound : (xs ys : List ℤ) (delays js : List ℕ) → check_order xs ys delays js ≡ Ok tt → Sound xs ys delays js
 order-sound xs ys delays js e =
     let (r, o) = order-ranged xs ys delays js e in
     sound r o

@@ -1,14 +1,16 @@
 -- Flags in an array, in place of a search among the entries before a pair; and a bad pair by the three tests of the code.
 use mathlib.Core.Path.{◌≡◌, refl, sym, ap, ◌∙◌}
 use mathlib.Core.Bool.{Bool, true, false, ◌||◌}
-use mathlib.Core.List.{List}
-use Prim.Native.Nat.{ℕ, ◌+◌, ◌-◌, ◌*◌, ◌≤◌, ◌<◌}
+use mathlib.Core.List.{List, []}
+use Prim.Native.Nat.{ℕ, zero, suc, ◌+◌, ◌-◌, ◌*◌, ◌/◌, ◌≤◌, ◌<◌}
 use native.Mathlib.Omega.{arith}
 use native.Mathlib.Numerals.{add-one}
 use borrow.Author.Tests.{eq-eqb, eqb-true, eqb-false, leb-false}
 use lib.Dec.{eqb, leb}
-use lib.ListN.{length, get_or, set, length-set, replicate, get_or-replicate, length-replicate}
-use lib.Seq.{get_or-set_same, get_or-set_other}
+use lib.ListN.{length, get_or, drop, set, length-set, replicate, get_or-replicate, length-replicate}
+use lib.Seq.{get_or-set_same, get_or-set_other, get_or-drop}
+use Rattle.std.specs.Simd.{first_chunks}
+use Rattle.std.proofs.lemmas.List.{get_or-take}
 use Rattle.orders.specs.Joins.{left, right, named, bad_pair}
 use Rattle.lists.proofs.Any.{no_both, any_more}
 
@@ -82,3 +84,17 @@ pub pair_small : (n i a b : ℕ) → n ≤ 512 → i < n - 1 → (eqb a b || (le
 pair_small n i a b few h e =
     let f = pair_low a b (n + i) e in
     (omega (arith, f.0, few, h), omega (arith, f.1, few, h))
+
+-- ---- a list by its pairs
+chunk_at : (n k i j : ℕ) (xs : List ℕ) → i < k → j < n → get_or (get_or (first_chunks n k xs) i []) j 0 ≡ get_or xs (n * i + j) 0
+chunk_at n zero i j xs h l = absurd (omega arith)
+chunk_at n (suc k) zero j xs h l = get_or-take n xs j 0 l ∙ ap (λ (m : ℕ). get_or xs m 0) (let e : j ≡ n * 0 + j = omega arith in e)
+chunk_at n (suc k) (suc i) j xs h l =
+    let e : n + (n * i + j) ≡ n * suc i + j = omega arith in
+    chunk_at n k i j (drop n xs) (omega arith) l ∙ get_or-drop n xs (n * i + j) 0 ∙ ap (λ (m : ℕ). get_or xs m 0) e
+
+-- pair i of the list's chunks of two
+pub in_chunks : (js : List ℕ) {ps : List (List ℕ)} (i : ℕ) → ps ≡ first_chunks 2 (length js / 2) js → i < length js / 2 → (get_or (get_or ps i []) 0 0 ≡ left js i) × (get_or (get_or ps i []) 1 0 ≡ right js i)
+in_chunks js i e h =
+    let z : 2 * i + 0 ≡ 2 * i = omega arith in
+    rw e (chunk_at 2 (length js / 2) i 0 js h (omega arith) ∙ ap (λ (m : ℕ). get_or js m 0) z, chunk_at 2 (length js / 2) i 1 js h (omega arith))

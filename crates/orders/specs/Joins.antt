@@ -1,11 +1,8 @@
 -- Document 01, "Embedding a joining order": the pairs, and their check, refusal 6. "A joining order is a list of n-1 pairs": a flat list of node numbers, two for each pair.
-use Rattle.std.specs.Prelude.{◌≡◌, Bool, not, ◌||◌, List, ℕ, ◌+◌, ◌-◌, ◌*◌, ◌/◌, ◌<◌, min, eqb, ltb, leb, ℤ, length, get_or}
+use Rattle.std.specs.Prelude.{◌≡◌, Bool, cond, not, ◌||◌, List, ℕ, ◌+◌, ◌-◌, ◌*◌, ◌/◌, ◌<◌, min, eqb, ltb, leb, ℤ, length, get_or, Option, Some, None, Ok}
 use Rattle.lists.specs.First.{first, any}
-use Rattle.plane.specs.Refusals.{refusal, refuse_if, and_then}
+use Rattle.plane.specs.Refusals.{Checked, refusal, refuse_if, and_then}
 use Rattle.plane.specs.Sinks.{check_sinks}
-use Rattle.plane.specs.declared.refusal.Place.TheVariants.{At}
-use Rattle.plane.specs.declared.refusal.Checked.{Checked}
-use Rattle.plane.specs.declared.refusal.Checked.TheVariants.{Fine}
 
 -- the two nodes of pair i
 abbrev pub left : List ℕ → ℕ → ℕ
@@ -31,12 +28,16 @@ bad_pair n js i =
 abbrev pub first_bad : ℕ → List ℕ → ℕ
 first_bad n js = first (bad_pair n js) 0 (n - 1)
 
+-- the same, or none
+abbrev pub bad_at : ℕ → List ℕ → Option ℕ
+bad_at n js = cond (ltb (first_bad n js) (n - 1)) (Some (first_bad n js)) None
+
 -- "wrong count: smaller of given and n-1; else first bad pair"; "only whole pairs count as given"
 unfoldable pub check_joins : ℕ → List ℕ → Checked
 check_joins n js =
-    refuse_if (not (eqb (length js) (2 * (n - 1)))) (refusal 6 (At (min (length js / 2) (n - 1))))
-    (refuse_if (ltb (first_bad n js) (n - 1)) (refusal 6 (At (first_bad n js)))
-    Fine)
+    refuse_if (not (eqb (length js) (2 * (n - 1)))) (refusal 6 (Some (min (length js / 2) (n - 1))))
+    (refuse_if (ltb (first_bad n js) (n - 1)) (refusal 6 (Some (first_bad n js)))
+    (Ok tt))
 
 -- refusals 1 to 4, 15 and 6
 unfoldable pub check_order : List ℤ → List ℤ → List ℕ → List ℕ → Checked

@@ -1,8 +1,8 @@
 // The check of a joining order: refusal 6.
 ghost use Rattle.std.specs.Prelude.{◌≡◌, ◌||◌, ◌-◌, ◌*◌, ◌≤◌, ◌<◌, eqb, leb, length, get_or};
-ghost use Rattle.orders.specs.Joins.{first_bad, check_joins};
+ghost use Rattle.orders.specs.Joins.{bad_at, check_joins};
 
-use plane::refusal::{Checked, Refusal};
+use plane::refusal::Refusal;
 
 // Entry p of the pairs.
 pub fn entry(js: &[u16], p: usize) -> usize
@@ -34,48 +34,35 @@ fn is_unlike(a: usize, b: usize, top: usize) -> bool
 }
 
 // The first bad pair, by a flag for each node that was named.
-fn first_bad(js: &[u16], n: usize) -> usize
+fn first_bad(js: &[u16], n: usize) -> Option<usize>
     requires { (0 < n) × (n ≤ 512) × (length js.now ≡ 2 * (n - 1)) }
-    ensures { result ≡ first_bad n js.now }
+    ensures { result ≡ bad_at n js.now }
 {
-    let last = n - 1;
     let mut named = [false; 1023];
-    let mut i = 0;
-    while i < last {
-        let a = entry(js, 2 * i);
-        let b = entry(js, 2 * i + 1);
-        if is_unlike(a, b, n + i) {
-            return i;
-        }
-        if named[a] {
-            return i;
-        }
-        if named[b] {
-            return i;
+    for (i, [a, b]) in js.as_chunks::<2>().0.iter().enumerate() {
+        let a = usize::from(*a);
+        let b = usize::from(*b);
+        if is_unlike(a, b, n + i) || named[a] || named[b] {
+            return Some(i);
         }
         named[a] = true;
         named[b] = true;
-        i += 1;
     }
-    i
+    None
 }
 
 // Refusal 6, of the pairs of n sinks.
-pub fn check_joins(js: &[u16], n: usize) -> Checked
+#[tactic(auto, unfolding(crate::specs::Joins::check_joins))]
+pub fn check_joins(js: &[u16], n: usize) -> Result<(), Refusal>
     requires { (0 < n) × (n ≤ 512) }
     ensures { result ≡ check_joins n js.now }
 {
     let last = n - 1;
-    let given = js.len() / 2;
     if js.len() != 2 * last {
-        if given <= last {
-            return Checked::Refused(Refusal::Joins(given));
-        }
-        return Checked::Refused(Refusal::Joins(last));
+        return Err(Refusal::Joins(last.min(js.len() / 2)));
     }
-    let i = first_bad(js, n);
-    if i < last {
-        return Checked::Refused(Refusal::Joins(i));
+    if let Some(i) = first_bad(js, n) {
+        return Err(Refusal::Joins(i));
     }
-    Checked::Fine
+    Ok(())
 }

@@ -1,19 +1,18 @@
 -- What an answer shows: values are only said after a check that is passed, and a refusal is told by its number and place.
-use mathlib.Core.Path.{◌≡◌, refl}
+use mathlib.Core.Path.{◌≡◌, refl, sym, ap}
 use Prim.Native.Nat.{ℕ}
 use native.Mathlib.Omega.{arith}
 use Rattle.plane.specs.declared.refusal.Refusal.{Refusal}
-use Rattle.plane.specs.declared.refusal.Checked.{Checked}
-use Rattle.plane.specs.declared.refusal.Checked.TheVariants.{Fine, Refused}
-use Rattle.plane.specs.Refusals.{number, place}
-use Rattle.plane.specs.Said.{Said, refused_by, after}
+use Rattle.std.specs.Prelude.{Result, Ok, Err}
+use Rattle.plane.specs.Refusals.{Checked, number, place}
+use Rattle.plane.specs.Said.{Said, refused_by, after, told}
 use Rattle.plane.specs.Said.Said.{answered}
 use Rattle.plane.proofs.Numbered.{told_apart}
 
 module _ {A : Type 0} where
-  pub after_answered : (c : Checked) (a b : A) → answered b ≡ after c a → (c ≡ Fine) × (b ≡ a)
-  after_answered Fine a b e = (refl, cc)
-  after_answered (Refused r) a b e = let z : ◌≡◌ {A = ℕ} 0 1 = cc in let n : ⊥ = omega arith in absurd n
+  pub after_answered : (c : Checked) (a b : A) → answered b ≡ after c a → (c ≡ Ok tt) × (b ≡ a)
+  after_answered (Ok tt) a b e = (refl, cc)
+  after_answered (Err r) a b e = let z : ◌≡◌ {A = ℕ} 0 1 = cc in let n : ⊥ = omega arith in absurd n
 
   pub same_values : (a b : A) → ◌≡◌ {A = Said A} (answered a) (answered b) → a ≡ b
   same_values a b e = cc
@@ -23,3 +22,10 @@ module _ {A : Type 0} where
 
   pub not_refused : (a : A) (r : Refusal) → ◌≡◌ {A = Said A} (answered a) (refused_by r) → ⊥
   not_refused a r e = let z : ◌≡◌ {A = ℕ} 0 1 = cc in omega arith
+
+  -- two answers of which the same is told
+  pub told_once : (a b : Result A Refusal) → told a ≡ told b → a ≡ b
+  told_once (Ok a) (Ok b) e = ap Ok (same_values a b e)
+  told_once (Ok a) (Err r) e = absurd (not_refused a r e)
+  told_once (Err r) (Ok b) e = absurd (not_refused b r (sym e))
+  told_once (Err r) (Err q) e = ap Err (same_refusal r q e)

@@ -16,15 +16,14 @@ use Rattle.lists.proofs.Zeros.{zeros}
 use Rattle.lists.specs.First.{any}
 use Rattle.measures.specs.Range.{in_range, late}
 use Rattle.measures.proofs.Numbers.{nearer}
-use Rattle.plane.specs.Refusals.{refuse_if, and_then}
+use Rattle.std.specs.Prelude.{Ok, Err}
+use Rattle.plane.specs.Refusals.{Checked, refuse_if, and_then}
 use Rattle.plane.specs.Sinks.{prompt, outside, first_outside, too_late, first_late, check_places, check_sinks, Ranged, Fitting, Placed}
 use Rattle.plane.specs.declared.refusal.Refusal.{Refusal}
 use Rattle.plane.specs.declared.refusal.Refusal.TheVariants.{Lists, NoSink, TooMany, Outside, Late}
-use Rattle.plane.specs.declared.refusal.Checked.{Checked}
-use Rattle.plane.specs.declared.refusal.Checked.TheVariants.{Fine, Refused}
 
 -- a line of a check that does not refuse
-pub passed : (t : Bool) (r : Refusal) (e : Checked) → refuse_if t r e ≡ Fine → (t ≡ false) × (e ≡ Fine)
+pub passed : (t : Bool) (r : Refusal) (e : Checked) → refuse_if t r e ≡ Ok tt → (t ≡ false) × (e ≡ Ok tt)
 passed true r e q = let z : ◌≡◌ {A = ℕ} 0 1 = cc in let b : ⊥ = omega arith in absurd b
 passed false r e q = (refl, q)
 
@@ -33,9 +32,9 @@ not-false true e = refl
 not-false false e = let z : ◌≡◌ {A = ℕ} 0 1 = cc in let b : ⊥ = omega arith in absurd b
 
 -- two checks of which none refuses
-pub both_pass : (a b : Checked) → and_then a b ≡ Fine → (a ≡ Fine) × (b ≡ Fine)
-both_pass Fine b q = (refl, q)
-both_pass (Refused r) b q = let z : ◌≡◌ {A = ℕ} 0 1 = cc in let b : ⊥ = omega arith in absurd b
+pub both_pass : (a b : Checked) → and_then a b ≡ Ok tt → (a ≡ Ok tt) × (b ≡ Ok tt)
+both_pass (Ok tt) b q = (refl, q)
+both_pass (Err r) b q = let z : ◌≡◌ {A = ℕ} 0 1 = cc in let b : ⊥ = omega arith in absurd b
 
 pub record Accepted (limit : ℕ) (xs ys : List ℤ) (delays : List ℕ) : Type 0 where
   pub some : 0 < length xs
@@ -50,7 +49,7 @@ all_early delays e i =
     (λ h. rw (get_or-eq_default delays 0 {n = i} h) (omega arith))
     (or_lt i (length delays))
 
-pub accepted : (limit : ℕ) (xs ys : List ℤ) (delays : List ℕ) → check_sinks limit xs ys delays ≡ Fine → Accepted limit xs ys delays
+pub accepted : (limit : ℕ) (xs ys : List ℤ) (delays : List ℕ) → check_sinks limit xs ys delays ≡ Ok tt → Accepted limit xs ys delays
 unfolding check_sinks check_places
 accepted limit xs ys delays q =
     let f = passed (not (eqb (length xs) (length delays))) Lists _ q in
@@ -74,7 +73,7 @@ accepted limit xs ys delays q =
     }
 
 -- and nothing more is asked: sinks may share a place
-pub accepts : (limit : ℕ) (xs ys : List ℤ) (delays : List ℕ) → Accepted limit xs ys delays → check_sinks limit xs ys delays ≡ Fine
+pub accepts : (limit : ℕ) (xs ys : List ℤ) (delays : List ℕ) → Accepted limit xs ys delays → check_sinks limit xs ys delays ≡ Ok tt
 unfolding check_sinks check_places
 accepts limit xs ys delays a =
     simp (
@@ -90,9 +89,9 @@ accepts limit xs ys delays a =
 prompt_early : (xs : List ℤ) (i : ℕ) → too_late (prompt xs) i ≡ false
 prompt_early xs i = rw (zeros (length xs) i)
 
-then_fine : (a : Checked) → and_then a Fine ≡ a
-then_fine Fine = refl
-then_fine (Refused r) = refl
+then_fine : (a : Checked) → and_then a (Ok tt) ≡ a
+then_fine (Ok tt) = refl
+then_fine (Err r) = refl
 
 pub check_prompt : (limit : ℕ) (xs ys : List ℤ) → check_sinks limit xs ys (prompt xs) ≡ check_places limit xs ys
 unfolding check_sinks

@@ -3,6 +3,7 @@ pub mod Withdrawn
 pub mod Numbered
 pub mod Answered
 pub mod Covering
+pub mod Found
 pub mod Checks
 pub mod Unlifted
 pub mod Outcomes

@@ -5,14 +5,13 @@ use Prim.Native.Nat.{ℕ}
 use native.Mathlib.Omega.{arith}
 use borrow.Author.Tests.{eqb-true}
 use lib.Dec.{eqb}
+use Rattle.std.specs.Prelude.{Option, Some, None}
 use Rattle.plane.specs.Refusals.{number, place, refusal, Listed}
 use Rattle.plane.specs.Refusals.Listed.{lists, no_sink, too_many, outside, joins, room, form, tags, unlike, late}
 use Rattle.plane.specs.declared.refusal.Refusal.{Refusal}
 use Rattle.plane.specs.declared.refusal.Refusal.TheVariants.{Lists, NoSink, TooMany, Outside, Joins, Room, Form, Tags, Unlike, Late}
-use Rattle.plane.specs.declared.refusal.Place.{Place}
-use Rattle.plane.specs.declared.refusal.Place.TheVariants.{None, At}
 
-pub number_back : {n : ℕ} {p : Place} → Listed n p → number (refusal n p) ≡ n
+pub number_back : {n : ℕ} {p : Option ℕ} → Listed n p → number (refusal n p) ≡ n
 number_back lists = refl
 number_back no_sink = refl
 number_back too_many = refl
@@ -24,7 +23,7 @@ number_back tags = refl
 number_back (unlike i) = refl
 number_back (late i) = refl
 
-pub place_back : {n : ℕ} {p : Place} → Listed n p → place (refusal n p) ≡ p
+pub place_back : {n : ℕ} {p : Option ℕ} → Listed n p → place (refusal n p) ≡ p
 place_back lists = refl
 place_back no_sink = refl
 place_back too_many = refl
@@ -66,14 +65,14 @@ pub told_apart : (r q : Refusal) → number r ≡ number q → place r ≡ place
 told_apart r q e f = sym (refusal_back r) ∙ ap (λ (n : ℕ). refusal n (place r)) e ∙ ap (refusal (number q)) f ∙ refusal_back q
 
 -- ---- a number that is asked for is the number that is said: for no other does `refusal` have the place that was asked for
-step : (n k : ℕ) (r q : Refusal) (p : Place) → number r ≡ k → (place q ≡ p → number q ≡ n) → place (cond (eqb n k) r q) ≡ p → number (cond (eqb n k) r q) ≡ n
+step : (n k : ℕ) (r q : Refusal) (p : Option ℕ) → number r ≡ k → (place q ≡ p → number q ≡ n) → place (cond (eqb n k) r q) ≡ p → number (cond (eqb n k) r q) ≡ n
 step n k r q p e h = go (eqb n k) refl
   where
     go : (t : Bool) → eqb n k ≡ t → place (cond t r q) ≡ p → number (cond t r q) ≡ n
     go true s w = e ∙ sym (eqb-true n k s)
     go false s w = h w
 
-pub asked : (n : ℕ) (p : Place) → place (refusal n p) ≡ p → number (refusal n p) ≡ n
+pub asked : (n : ℕ) (p : Option ℕ) → place (refusal n p) ≡ p → number (refusal n p) ≡ n
 asked n None =
     step n 1 Lists _ None refl
     (step n 2 NoSink _ None refl
@@ -81,10 +80,10 @@ asked n None =
     (step n 7 Room _ None refl
     (step n 9 Tags _ None refl
     (λ w. let z : ◌≡◌ {A = ℕ} 0 1 = cc in let b : ⊥ = omega arith in absurd b)))))
-asked n (At i) =
-    step n 4 (Outside i) _ (At i) refl
-    (step n 6 (Joins i) _ (At i) refl
-    (step n 8 (Form i) _ (At i) refl
-    (step n 9 (Unlike i) _ (At i) refl
-    (step n 15 (Late i) _ (At i) refl
+asked n (Some i) =
+    step n 4 (Outside i) _ (Some i) refl
+    (step n 6 (Joins i) _ (Some i) refl
+    (step n 8 (Form i) _ (Some i) refl
+    (step n 9 (Unlike i) _ (Some i) refl
+    (step n 15 (Late i) _ (Some i) refl
     (λ w. let z : ◌≡◌ {A = ℕ} 0 1 = cc in let b : ⊥ = omega arith in absurd b)))))

@@ -1,39 +1,31 @@
 -- Two permitted outcomes of a public call coincide.
-use mathlib.Core.Path.{◌≡◌, refl, sym, ap, ◌∙◌}
+use mathlib.Core.Path.{◌≡◌, sym, ap, ◌∙◌}
 use mathlib.Core.List.{List}
 use Prim.Native.Nat.{ℕ}
 use lib.IntN.{ℤ}
+use Rattle.std.specs.Prelude.{Result, Ok, Err}
 use Rattle.measures.specs.declared.boxes.Box.{Box}
-use Rattle.plane.specs.declared.bounds.Boxed.{Boxed}
-use Rattle.plane.specs.declared.bounds.Boxed.TheVariants.{Of, NoBox}
 use Rattle.plane.specs.declared.bounds.Widening.{Widening}
 use Rattle.plane.specs.declared.bounds.Extent.{Extent}
-use Rattle.plane.specs.declared.refusal.Checked.{Checked}
-use Rattle.plane.specs.declared.refusal.Checked.TheVariants.{Fine, Refused}
-use Rattle.plane.specs.Said.{told_check}
+use Rattle.plane.specs.declared.refusal.Refusal.{Refusal}
+use Rattle.plane.specs.Said.{told}
 use Rattle.plane.specs.Bounds.{seen, bounds, bounds_in, box_answer, Widens}
-use Rattle.plane.proofs.Answered.{same_values, same_refusal, not_refused}
+use Rattle.plane.proofs.Answered.{same_values, same_refusal, not_refused, told_once}
 use Rattle.plane.proofs.Unlifted.{bounds_once}
 
-pub seen_once : (a b : Boxed) → seen a ≡ seen b → a ≡ b
-seen_once (Of a) (Of b) e = ap Of (bounds_once a b (same_values (bounds a) (bounds b) e))
-seen_once (Of a) (NoBox r) e = absurd (not_refused (bounds a) r e)
-seen_once (NoBox r) (Of b) e = absurd (not_refused (bounds b) r (sym e))
-seen_once (NoBox r) (NoBox q) e = ap NoBox (same_refusal r q e)
+pub seen_once : (a b : Result Box Refusal) → seen a ≡ seen b → a ≡ b
+seen_once (Ok a) (Ok b) e = ap Ok (bounds_once a b (same_values (bounds a) (bounds b) e))
+seen_once (Ok a) (Err r) e = absurd (not_refused (bounds a) r e)
+seen_once (Err r) (Ok b) e = absurd (not_refused (bounds b) r (sym e))
+seen_once (Err r) (Err q) e = ap Err (same_refusal r q e)
 
-pub check_once : (a b : Checked) → told_check a ≡ told_check b → a ≡ b
-check_once Fine Fine e = refl
-check_once Fine (Refused r) e = absurd (not_refused tt r e)
-check_once (Refused r) Fine e = absurd (not_refused tt r (sym e))
-check_once (Refused r) (Refused q) e = ap Refused (same_refusal r q e)
-
-pub only_box_of : (xs ys : List ℤ) (delays : List ℕ) {r r' : Boxed} → seen r ≡ box_answer xs ys delays → seen r' ≡ box_answer xs ys delays → r ≡ r'
+pub only_box_of : (xs ys : List ℤ) (delays : List ℕ) {r r' : Result Box Refusal} → seen r ≡ box_answer xs ys delays → seen r' ≡ box_answer xs ys delays → r ≡ r'
 only_box_of xs ys delays {r} {r'} p q = seen_once r r' (p ∙ sym q)
 
-pub only_widened : (b : Box) (x y : ℤ) (w : ℕ) {r r' : Widening} → Widens (bounds b) x y w (bounds r.held) (told_check r.said) → Widens (bounds b) x y w (bounds r'.held) (told_check r'.said) → r ≡ r'
+pub only_widened : (b : Box) (x y : ℤ) (w : ℕ) {r r' : Widening} → Widens (bounds b) x y w (bounds r.held) (told r.said) → Widens (bounds b) x y w (bounds r'.held) (told r'.said) → r ≡ r'
 only_widened b x y w {r} {r'} p q =
     let e = bounds_once r.held r'.held (p.holds ∙ sym q.holds) in
-    let f = check_once r.said r'.said (p.says ∙ sym q.says) in
+    let f = told_once r.said r'.said (p.says ∙ sym q.says) in
     λ k. record { held = e k; said = f k }
 
 pub only_ends : (b : Box) {r r' : Extent} → bounds_in r ≡ bounds b → bounds_in r' ≡ bounds b → r ≡ r'

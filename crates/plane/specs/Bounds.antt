@@ -1,17 +1,13 @@
 -- The box of all sinks, and a held box that is widened by one more sink.
-use Rattle.std.specs.Prelude.{◌≡◌, ◌&&◌, not, List, ℕ, zero, suc, ℤ, pos, ◌+ℤ◌, ◌-ℤ◌, length, get_or}
+use Rattle.std.specs.Prelude.{◌≡◌, ◌&&◌, not, List, ℕ, zero, suc, ℤ, pos, ◌+ℤ◌, ◌-ℤ◌, length, get_or, Some, Result, Ok, Err}
 use Rattle.lists.specs.Grow.{up_to}
 use Rattle.zero_skew.specs.Box.{Bounds, box_of, hull}
 use Rattle.measures.specs.declared.boxes.Box.{Box}
-use Rattle.plane.specs.declared.bounds.Boxed.{Boxed}
-use Rattle.plane.specs.declared.bounds.Boxed.TheVariants.{Of, NoBox}
 use Rattle.plane.specs.declared.bounds.Extent.{Extent}
-use Rattle.plane.specs.declared.refusal.Place.TheVariants.{At}
-use Rattle.plane.specs.declared.refusal.Checked.{Checked}
-use Rattle.plane.specs.declared.refusal.Checked.TheVariants.{Fine, Refused}
+use Rattle.plane.specs.declared.refusal.Refusal.{Refusal}
 use Rattle.measures.specs.Range.{in_range, late}
-use Rattle.plane.specs.Refusals.{refusal, refuse_if}
-use Rattle.plane.specs.Said.{Said, refused_by, after, told_check}
+use Rattle.plane.specs.Refusals.{Checked, refusal, refuse_if}
+use Rattle.plane.specs.Said.{Said, refused_by, after, told}
 use Rattle.plane.specs.Said.Said.{answered}
 use Rattle.plane.specs.Sinks.{sinks_at, check_sinks}
 use Rattle.measures.specs.Measures.{unlifted}
@@ -24,10 +20,10 @@ bounds b =
 abbrev pub bounds_in : Extent → Bounds
 bounds_in e = record { least_u = e.least_u; greatest_u = e.greatest_u; least_v = e.least_v; greatest_v = e.greatest_v }
 
--- what the enum says: a box, or a refusal's number and place
-abbrev pub seen : Boxed → Said Bounds
-seen (Of b) = answered (bounds b)
-seen (NoBox r) = refused_by r
+-- what an answer with a box says: the numbers that it holds, or a refusal's number and place
+abbrev pub seen : Result Box Refusal → Said Bounds
+seen (Ok b) = answered (bounds b)
+seen (Err r) = refused_by r
 
 -- "a box worked out from all sinks"
 unfoldable pub box_answer : List ℤ → List ℤ → List ℕ → Said Bounds
@@ -45,12 +41,12 @@ sink_bounds x y w =
 
 -- "a box already held is widened by one more sink; a sink outside its range is refused with 4, place 0, and the held box stays as it is"; then 15, place 0, for its delay
 abbrev pub verdict : ℤ → ℤ → ℕ → Checked
-verdict x y w = refuse_if (not (in_range x && in_range y)) (refusal 4 (At 0)) (refuse_if (late w) (refusal 15 (At 0)) Fine)
+verdict x y w = refuse_if (not (in_range x && in_range y)) (refusal 4 (Some 0)) (refuse_if (late w) (refusal 15 (Some 0)) (Ok tt))
 
 -- a box that is held, and what it becomes where a check is passed
 abbrev pub held_after : Checked → Bounds → Bounds → Bounds
-held_after Fine held wider = wider
-held_after (Refused r) held wider = held
+held_after (Ok u) held wider = wider
+held_after (Err r) held wider = held
 
 abbrev pub widened_by : Bounds → ℤ → ℤ → ℕ → Bounds
 widened_by b x y w = held_after (verdict x y w) b (hull b (sink_bounds x y w))
@@ -58,7 +54,7 @@ widened_by b x y w = held_after (verdict x y w) b (hull b (sink_bounds x y w))
 -- the held box and the sink, then the box after it and what is said
 pub record Widens (b : Bounds) (x y : ℤ) (w : ℕ) (held : Bounds) (said : Said (Unit {0})) : Type 0 where
   pub holds : held ≡ widened_by b x y w
-  pub says : said ≡ told_check (verdict x y w)
+  pub says : said ≡ told (verdict x y w)
 
 -- the box of sink 0, widened by sinks 1 to k in turn
 unfoldable pub in_turn : List ℤ → List ℤ → List ℕ → ℕ → Bounds

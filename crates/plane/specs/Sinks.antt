@@ -1,12 +1,9 @@
 -- The sinks of a call, and their check: refusals 1 to 4 and 15.
-use Rattle.std.specs.Prelude.{◌≡◌, Bool, false, not, ◌&&◌, List, ℕ, ◌≤◌, ◌<◌, eqb, ltb, ℤ, pos, length, get_or, replicate}
+use Rattle.std.specs.Prelude.{◌≡◌, Bool, false, not, ◌&&◌, List, ℕ, ◌≤◌, ◌<◌, eqb, ltb, ℤ, pos, length, get_or, replicate, Some, None, Ok}
 use Rattle.lists.specs.First.{first}
 use Rattle.zero_skew.specs.Plane.{Sinks}
 use Rattle.measures.specs.Range.{in_range, late, Central, Brief}
-use Rattle.plane.specs.Refusals.{refusal, refuse_if, and_then}
-use Rattle.plane.specs.declared.refusal.Place.TheVariants.{None, At}
-use Rattle.plane.specs.declared.refusal.Checked.{Checked}
-use Rattle.plane.specs.declared.refusal.Checked.TheVariants.{Fine}
+use Rattle.plane.specs.Refusals.{Checked, refusal, refuse_if, and_then}
 
 -- the sinks whose coordinates and delays three lists give
 abbrev pub sinks_at : List ℤ → List ℤ → List ℕ → Sinks
@@ -16,9 +13,13 @@ sinks_at xs ys delays = record { n = length xs; at = λ i. record { x = get_or x
 abbrev pub prompt : List ℤ → List ℕ
 prompt xs = replicate (length xs) 0
 
--- sink i has a coordinate outside its range
+-- a place with a coordinate outside its range
+abbrev pub out_of_range : ℤ × ℤ → Bool
+out_of_range p = not (in_range p.0 && in_range p.1)
+
+-- sink i has such a place
 abbrev pub outside : List ℤ → List ℤ → ℕ → Bool
-outside xs ys i = not (in_range (get_or xs i (pos 0)) && in_range (get_or ys i (pos 0)))
+outside xs ys i = out_of_range (get_or xs i (pos 0), get_or ys i (pos 0))
 
 -- "lowest such sink" (where there is none, the number of sinks)
 abbrev pub first_outside : List ℤ → List ℤ → ℕ
@@ -37,16 +38,16 @@ check_places limit xs ys =
     refuse_if (not (eqb (length xs) (length ys))) (refusal 1 None)
     (refuse_if (eqb (length xs) 0) (refusal 2 None)
     (refuse_if (ltb limit (length xs)) (refusal 3 None)
-    (refuse_if (ltb (first_outside xs ys) (length xs)) (refusal 4 (At (first_outside xs ys)))
-    Fine)))
+    (refuse_if (ltb (first_outside xs ys) (length xs)) (refusal 4 (Some (first_outside xs ys)))
+    (Ok tt))))
 
 -- with a list of delays: "1 covers the list of delays too", and 15 is "checked after 4"
 unfoldable pub check_sinks : ℕ → List ℤ → List ℤ → List ℕ → Checked
 check_sinks limit xs ys delays =
     refuse_if (not (eqb (length xs) (length delays))) (refusal 1 None)
     (and_then (check_places limit xs ys)
-    (refuse_if (ltb (first_late delays) (length delays)) (refusal 15 (At (first_late delays)))
-    Fine))
+    (refuse_if (ltb (first_late delays) (length delays)) (refusal 15 (Some (first_late delays)))
+    (Ok tt)))
 
 -- for the code alone: what an accepted check leaves
 pub record Ranged (xs ys : List ℤ) (delays : List ℕ) : Type 0 where

@@ -5,26 +5,19 @@ ghost use Rattle.zero_skew.specs.Box.{across};
 ghost use Rattle.plane.specs.Sinks.{sinks_at, Fitting, Placed};
 ghost use Rattle.measures.specs.Boxes.{sink_box};
 ghost use Rattle.measures.specs.Covers.{Covers};
-ghost use Rattle.plane.specs.Said.{told_check};
+ghost use Rattle.plane.specs.Said.{told};
 ghost use Rattle.plane.specs.Bounds.{bounds, bounds_in, box_answer, seen, widened_by, verdict, Widens};
 
-use crate::refusal::{Checked, Refusal};
+use crate::refusal::Refusal;
 use crate::sinks;
 use measures::boxes::Box;
 use measures::{boxes, measure};
-
-// What the box of all sinks comes to.
-#[derive(Clone, Copy)]
-pub enum Boxed {
-    Of(Box),
-    NoBox(Refusal),
-}
 
 // A held box after one more sink, and what was said of the sink.
 #[derive(Clone, Copy)]
 pub struct Widening {
     pub held: Box,
-    pub said: Checked,
+    pub said: Result<(), Refusal>,
 }
 
 // The four numbers of a box, with sign.
@@ -48,6 +41,7 @@ pub fn ends(b: Box) -> Extent
 }
 
 // The diameter of a box, whatever numbers it holds.
+#[tactic(auto, using(crate::proofs::Unlifted::diam_is))]
 pub fn diameter(b: Box) -> u32
     ensures { result ≡ across (bounds b) }
 {
@@ -76,36 +70,32 @@ fn box_sound(xs: &[i32], ys: &[i32], delays: &[u32]) -> Box
     ensures { Covers (sinks_at xs.now ys.now delays.now) (up_to (length xs.now)) result }
 {
     let mut b = sink_at(xs, ys, delays, 0);
-    let mut i = 1;
-    while i < xs.len() {
+    for i in 1..xs.len() {
         b = boxes::hull(b, sink_at(xs, ys, delays, i));
-        i += 1;
     }
     b
 }
 
 // The box of all sinks, or refusal 1 to 4 or 15.
-pub fn box_of(xs: &[i32], ys: &[i32], delays: &[u32]) -> Boxed
+#[tactic(auto, using(crate::proofs::Checks::accepted, crate::proofs::Checks::fitting, crate::proofs::Covering::covers_box), unfolding(crate::specs::Bounds::box_answer))]
+pub fn box_of(xs: &[i32], ys: &[i32], delays: &[u32]) -> Result<Box, Refusal>
     ensures { seen result ≡ box_answer xs.now ys.now delays.now }
 {
-    let said = sinks::check_sinks(xs, ys, delays, 512);
-    if let Checked::Refused(r) = said {
-        return Boxed::NoBox(r);
-    }
-    Boxed::Of(box_sound(xs, ys, delays))
+    sinks::check_sinks(xs, ys, delays, 512)?;
+    Ok(box_sound(xs, ys, delays))
 }
 
 // What is said of one more sink: refusal 4, then 15, both at place 0.
-pub fn verdict_on(x: i32, y: i32, w: u32) -> Checked
+pub fn verdict_on(x: i32, y: i32, w: u32) -> Result<(), Refusal>
     ensures { result ≡ verdict x y w }
 {
     if !sinks::inside(x, y) {
-        return Checked::Refused(Refusal::Outside(0));
+        return Err(Refusal::Outside(0));
     }
     if measure::is_late(w) {
-        return Checked::Refused(Refusal::Late(0));
+        return Err(Refusal::Late(0));
     }
-    Checked::Fine
+    Ok(())
 }
 
 // The box with one more sink; the box itself where the sink or its delay is out of range.
@@ -123,7 +113,7 @@ pub fn enlarged(b: Box, x: i32, y: i32, w: u32) -> Box
 
 // A held box, widened by one more sink. Where the sink is refused, with 4 or 15, place 0, the box stays.
 pub fn widened(b: Box, x: i32, y: i32, w: u32) -> Widening
-    ensures { Widens (bounds b) x y w (bounds result.held) (told_check result.said) }
+    ensures { Widens (bounds b) x y w (bounds result.held) (told result.said) }
 {
     Widening {
         held: enlarged(b, x, y, w),

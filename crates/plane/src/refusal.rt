@@ -3,7 +3,7 @@ ghost use Rattle.std.specs.Prelude.{◌≡◌};
 ghost use Rattle.plane.specs.Refusals.{number, place};
 
 // The refusals of document 01, in its order. Number 5 is withdrawn: no refusal has it.
-#[derive(Clone, Copy)]
+#[derive(Clone, Copy, Debug, PartialEq, Eq)]
 pub enum Refusal {
     // 1: the lists of x, y and delays differ in length.
     Lists,
@@ -27,20 +27,6 @@ pub enum Refusal {
     Late(usize),
 }
 
-// The place that a refusal tells of: none, or a number, of which 0 is one.
-#[derive(Clone, Copy)]
-pub enum Place {
-    None,
-    At(usize),
-}
-
-// What a check says.
-#[derive(Clone, Copy)]
-pub enum Checked {
-    Fine,
-    Refused(Refusal),
-}
-
 // Document 01's number of a refusal.
 pub fn number_of(r: Refusal) -> u32
     ensures { result ≡ number r }
@@ -59,20 +45,20 @@ pub fn number_of(r: Refusal) -> u32
     }
 }
 
-// Document 01's place of a refusal.
-pub fn place_of(r: Refusal) -> Place
+// Document 01's place of a refusal: none, or a number, of which 0 is one.
+pub fn place_of(r: Refusal) -> Option<usize>
     ensures { result ≡ place r }
 {
     match r {
-        Refusal::Lists => Place::None,
-        Refusal::NoSink => Place::None,
-        Refusal::TooMany => Place::None,
-        Refusal::Outside(i) => Place::At(i),
-        Refusal::Joins(i) => Place::At(i),
-        Refusal::Room => Place::None,
-        Refusal::Form(i) => Place::At(i),
-        Refusal::Tags => Place::None,
-        Refusal::Unlike(i) => Place::At(i),
-        Refusal::Late(i) => Place::At(i),
+        Refusal::Lists => None,
+        Refusal::NoSink => None,
+        Refusal::TooMany => None,
+        Refusal::Outside(i) => Some(i),
+        Refusal::Joins(i) => Some(i),
+        Refusal::Room => None,
+        Refusal::Form(i) => Some(i),
+        Refusal::Tags => None,
+        Refusal::Unlike(i) => Some(i),
+        Refusal::Late(i) => Some(i),
     }
 }

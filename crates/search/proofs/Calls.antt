@@ -10,7 +10,7 @@ use Rattle.zero_skew.specs.Tree.{Tree, wire, ZeroSkew}
 use Rattle.plane.specs.Said.Said.{answered}
 use Rattle.plane.proofs.Answered.{after_answered}
 use Rattle.plane.specs.Sinks.{sinks_at, prompt}
-use Rattle.plane.specs.declared.refusal.Checked.TheVariants.{Fine}
+use Rattle.std.specs.Prelude.{Ok}
 use Rattle.orders.specs.Nodes.{total}
 use Rattle.orders.specs.Sound.{Ordered}
 use Rattle.orders.proofs.Bounded.{total_bounded, no_delay_bounded}
@@ -25,7 +25,7 @@ use Rattle.search.proofs.Promises.{from_proven, never_more, none_is_shorter, pro
 -- what an accepted call has shown
 module _ (xs ys : List ℤ) (delays : List ℕ) (budget : ℕ) (table js : List ℕ) (us vs : List ℤ) (ws : List ℕ) (f : Found) (t j : List ℕ) (u v : List ℤ) (w : List ℕ)
     (call : Searches xs ys delays budget table js us vs ws (answered f) t j u v w) where
-  pub shown : (check_search xs ys delays (length table) (length js) (length us) (length vs) (length ws) ≡ Fine) × (f ≡ found (sinks_at xs ys delays) budget)
+  pub shown : (check_search xs ys delays (length table) (length js) (length us) (length vs) (length ws) ≡ Ok tt) × (f ≡ found (sinks_at xs ys delays) budget)
   shown = after_answered (check_search xs ys delays (length table) (length js) (length us) (length vs) (length ws)) (found (sinks_at xs ys delays) budget) f call.answers
 
   pub ready : Provided xs ys delays table js us vs ws

@@ -16,7 +16,7 @@ use Rattle.zero_skew.specs.Plane.{Sinks}
 use Rattle.zero_skew.specs.Order.{Order, Over}
 use Rattle.plane.specs.Sinks.{sinks_at, Ranged, check_sinks}
 use Rattle.plane.specs.declared.refusal.Refusal.TheVariants.{Room}
-use Rattle.plane.specs.declared.refusal.Checked.TheVariants.{Fine}
+use Rattle.std.specs.Prelude.{Ok}
 use Rattle.plane.proofs.Checks.{passed, both_pass, accepted}
 use Rattle.search.specs.declared.search.Found.{Found}
 use Rattle.orders.specs.Joins.{Valid}
@@ -44,7 +44,7 @@ use Rattle.subsets.proofs.Small.{diam_small}
 
 -- ---- what an accepted check leaves
 pub provided : (xs ys : List ℤ) (delays table js : List ℕ) (us vs : List ℤ) (ws : List ℕ)
-    → check_search xs ys delays (length table) (length js) (length us) (length vs) (length ws) ≡ Fine → Provided xs ys delays table js us vs ws
+    → check_search xs ys delays (length table) (length js) (length us) (length vs) (length ws) ≡ Ok tt → Provided xs ys delays table js us vs ws
 unfolding check_search check_rooms
 provided xs ys delays table js us vs ws e =
     let (p, q) = both_pass (check_sinks 12 xs ys delays) (check_rooms (length xs) (length table) (length js) (length us) (length vs) (length ws)) e in

@@ -5,28 +5,21 @@ use Prim.Native.Nat.{ℕ, ◌≤◌}
 use lib.IntN.{ℤ}
 use lib.ListN.{length}
 use Rattle.lists.specs.Grow.{front}
-use Rattle.plane.specs.Said.{Said, refused_by, after, if_answered}
-use Rattle.plane.proofs.Answered.{same_values, same_refusal, not_refused}
+use Rattle.plane.specs.Said.{Said, refused_by, after, told, if_answered}
+use Rattle.plane.proofs.Answered.{told_once}
 use Rattle.plane.specs.Sinks.{sinks_at}
-use Rattle.plane.specs.declared.refusal.Checked.{Checked}
-use Rattle.plane.specs.declared.refusal.Checked.TheVariants.{Fine, Refused}
+use Rattle.plane.specs.Refusals.{Checked}
+use Rattle.std.specs.Prelude.{Result, Ok, Err}
+use Rattle.plane.specs.declared.refusal.Refusal.{Refusal}
 use Rattle.orders.specs.Nodes.{places_u, places_v, wires}
 use Rattle.search.specs.declared.search.Found.{Found}
-use Rattle.search.specs.declared.search.Searched.{Searched}
-use Rattle.search.specs.declared.search.Searched.TheVariants.{Tree, NoTree}
 use Rattle.subsets.specs.Best.{step_count}
 use Rattle.search.specs.Rooms.{check_search}
-use Rattle.search.specs.Searching.{Searches, found, told_search, joins_found, table_of}
+use Rattle.search.specs.Searching.{Searches, found, joins_found, table_of}
 use Rattle.search.proofs.Promises.{found_stands, joins_stand, table_stands}
 
-pub search_once : (r r' : Searched) → told_search r ≡ told_search r' → r ≡ r'
-search_once (Tree f) (Tree g) e = ap Tree (same_values f g e)
-search_once (Tree f) (NoTree r) e = absurd (not_refused f r e)
-search_once (NoTree r) (Tree f) e = absurd (not_refused f r (sym e))
-search_once (NoTree r) (NoTree q) e = ap NoTree (same_refusal r q e)
-
 -- the answers, and the buffers after the calls
-pub record Same (r r' : Searched) (t t' j j' : List ℕ) (u u' v v' : List ℤ) (w w' : List ℕ) : Type 0 where
+pub record Same (r r' : Result Found Refusal) (t t' j j' : List ℕ) (u u' v v' : List ℤ) (w w' : List ℕ) : Type 0 where
   pub said : r ≡ r'
   pub table_same : t ≡ t'
   pub js_same : j ≡ j'
@@ -35,13 +28,13 @@ pub record Same (r r' : Searched) (t t' j j' : List ℕ) (u u' v v' : List ℤ) 
   pub ws_same : w ≡ w'
 
 module _ (xs ys : List ℤ) (delays table js : List ℕ) (us vs : List ℤ) (ws : List ℕ) where
-  pub only_search : (budget : ℕ) {r r' : Searched} {t t' j j' : List ℕ} {u u' v v' : List ℤ} {w w' : List ℕ}
-      → Searches xs ys delays budget table js us vs ws (told_search r) t j u v w → Searches xs ys delays budget table js us vs ws (told_search r') t' j' u' v' w' → Same r r' t t' j j' u u' v v' w w'
+  pub only_search : (budget : ℕ) {r r' : Result Found Refusal} {t t' j j' : List ℕ} {u u' v v' : List ℤ} {w w' : List ℕ}
+      → Searches xs ys delays budget table js us vs ws (told r) t j u v w → Searches xs ys delays budget table js us vs ws (told r') t' j' u' v' w' → Same r r' t t' j j' u u' v v' w w'
   only_search budget {r} {r'} {t} {t'} {j} {j'} {u} {u'} {v} {v'} {w} {w'} p q =
       let s = sinks_at xs ys delays in
-      let e : told_search r ≡ told_search r' = p.answers ∙ sym q.answers in
+      let e : told r ≡ told r' = p.answers ∙ sym q.answers in
       record {
-        said = search_once r r' e;
+        said = told_once r r' e;
         table_same = p.writes_table ∙ ap (λ (a : Said Found). front (if_answered a (table_of s budget)) table) e ∙ sym q.writes_table;
         js_same = p.writes_js ∙ ap (λ (a : Said Found). front (if_answered a (joins_found s budget)) js) e ∙ sym q.writes_js;
         us_same = p.writes_u ∙ ap (λ (a : Said Found). front (if_answered a (places_u s (joins_found s budget))) us) e ∙ sym q.writes_u;
@@ -55,7 +48,7 @@ module _ (xs ys : List ℤ) (delays table js : List ℕ) (us vs : List ℤ) (ws 
     moved {r} {t} {j} {u} {v} {w} p = go (check_search xs ys delays (length table) (length js) (length us) (length vs) (length ws)) refl
       where
         go : (k : Checked) → check_search xs ys delays (length table) (length js) (length us) (length vs) (length ws) ≡ k → Searches xs ys delays b table js us vs ws r t j u v w
-        go Fine e =
+        go (Ok tt) e =
             let s = sinks_at xs ys delays in
             let ej : joins_found s c ≡ joins_found s b = joins_stand s c b enough' enough in
             record {
@@ -66,7 +59,7 @@ module _ (xs ys : List ℤ) (delays table js : List ℕ) (us vs : List ℤ) (ws 
               writes_v = p.writes_v ∙ ap (λ (l : List ℕ). front (if_answered r (places_v s l)) vs) ej;
               writes_w = p.writes_w ∙ ap (λ (l : List ℕ). front (if_answered r (wires s l)) ws) ej;
             }
-        go (Refused x) e =
+        go (Err x) e =
             let s = sinks_at xs ys delays in
             let er : r ≡ refused_by x = p.answers ∙ ap (λ (k : Checked). after k (found s c)) e in
             record {
@@ -79,6 +72,6 @@ module _ (xs ys : List ℤ) (delays table js : List ℕ) (us vs : List ℤ) (ws 
             }
 
   -- from F(n) on no byte of any buffer or of the answer changes
-  pub same_from : (b c : ℕ) → step_count (length xs) ≤ b → step_count (length xs) ≤ c → {r r' : Searched} {t t' j j' : List ℕ} {u u' v v' : List ℤ} {w w' : List ℕ}
-      → Searches xs ys delays b table js us vs ws (told_search r) t j u v w → Searches xs ys delays c table js us vs ws (told_search r') t' j' u' v' w' → Same r r' t t' j j' u u' v v' w w'
+  pub same_from : (b c : ℕ) → step_count (length xs) ≤ b → step_count (length xs) ≤ c → {r r' : Result Found Refusal} {t t' j j' : List ℕ} {u u' v v' : List ℤ} {w w' : List ℕ}
+      → Searches xs ys delays b table js us vs ws (told r) t j u v w → Searches xs ys delays c table js us vs ws (told r') t' j' u' v' w' → Same r r' t t' j j' u u' v v' w w'
   same_from b c h k p q = only_search b p (moved b c h k q)

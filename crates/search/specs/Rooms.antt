@@ -1,9 +1,7 @@
 -- Document 01, "Refusal numbers", for the exact search: 1 to 4 with at most 12 sinks and 15, then 7.
-use Rattle.std.specs.Prelude.{List, ℕ, ◌-◌, ◌*◌, ◌^◌, ltb, ℤ, length}
-use Rattle.plane.specs.Refusals.{refusal, refuse_if, and_then}
+use Rattle.std.specs.Prelude.{List, ℕ, ◌-◌, ◌*◌, ◌^◌, ltb, ℤ, length, None}
+use Rattle.plane.specs.Refusals.{Checked, refusal, refuse_if, and_then}
 use Rattle.plane.specs.Sinks.{check_sinks}
-use Rattle.plane.specs.declared.refusal.Place.TheVariants.{None}
-use Rattle.plane.specs.declared.refusal.Checked.{Checked}
 use Rattle.embedding.specs.Embedding.{check_room}
 
 -- "a lent buffer is shorter than what the answer fills in it, the work table than 2^n": n sinks, and the rooms for the table, the pairs, U, V and wires

@@ -3,13 +3,10 @@ use Rattle.std.specs.Prelude.{◌≡◌, cond, List, ℕ, ◌-◌, ◌^◌, min,
 use Rattle.lists.specs.Grow.{front}
 use Rattle.zero_skew.specs.Plane.{Sinks}
 use Rattle.plane.specs.Sinks.{sinks_at}
-use Rattle.plane.specs.Said.{Said, refused_by, after, if_answered}
-use Rattle.plane.specs.Said.Said.{answered}
+use Rattle.plane.specs.Said.{Said, after, if_answered}
 use Rattle.orders.specs.Nodes.{places_u, places_v, wires, total}
 use Rattle.nearest.specs.Nearest.{order}
 use Rattle.search.specs.declared.search.Found.{Found}
-use Rattle.search.specs.declared.search.Searched.{Searched}
-use Rattle.search.specs.declared.search.Searched.TheVariants.{Tree, NoTree}
 use Rattle.subsets.specs.Subsets.{diam}
 use Rattle.subsets.specs.Best.{step_count}
 use Rattle.subsets.specs.Table.{table_after}
@@ -31,11 +28,6 @@ joins_found s budget = cond (leb (step_count s.n) budget) (kept_joins s budget) 
 -- "the steps reported equal the smaller of the budget and F(n)"
 unfoldable pub found : Sinks → ℕ → Found
 found s budget = record { total = total s (joins_found s budget); steps = min budget (step_count s.n); proven = leb (step_count s.n) budget }
-
--- what the enum says: total, steps and mark, or a refusal's number and place
-abbrev pub told_search : Searched → Said Found
-told_search (Tree f) = answered f
-told_search (NoTree r) = refused_by r
 
 -- what a call says, where the five buffers have so much room
 abbrev pub search_answer : List ℤ → List ℤ → List ℕ → ℕ → ℕ → ℕ → ℕ → ℕ → ℕ → Said Found

@@ -3,25 +3,26 @@ ghost use Rattle.std.specs.Prelude.{◌≡◌, ◌<◌, ◌≤◌};
 ghost use Rattle.search.specs.Rooms.{check_rooms, check_search};
 
 use embedding::room;
-use plane::refusal::{Checked, Refusal};
+use plane::refusal::Refusal;
 use plane::sinks;
 use subsets::subset;
 
 // Refusal 7: room for the table, the pairs and all nodes of n sinks.
-fn check_rooms(n: usize, table: usize, js: usize, us: usize, vs: usize, ws: usize) -> Checked
+fn check_rooms(n: usize, table: usize, js: usize, us: usize, vs: usize, ws: usize) -> Result<(), Refusal>
     requires { (0 < n) × (n ≤ 12) }
     ensures { result ≡ check_rooms n table js us vs ws }
 {
     if table < subset::place(subset::subsets(subset::sinks(n))) {
-        return Checked::Refused(Refusal::Room);
+        return Err(Refusal::Room);
     }
     if js < 2 * (n - 1) {
-        return Checked::Refused(Refusal::Room);
+        return Err(Refusal::Room);
     }
     room::check_room(2 * n - 1, us, vs, ws)
 }
 
 // Refusals 1 to 4 and 15, then 7.
+#[tactic(auto, unfolding(crate::specs::Rooms::check_search))]
 pub fn check_search(
     xs: &[i32],
     ys: &[i32],
@@ -31,12 +32,9 @@ pub fn check_search(
     us: usize,
     vs: usize,
     ws: usize,
-) -> Checked
+) -> Result<(), Refusal>
     ensures { result ≡ check_search xs.now ys.now delays.now table js us vs ws }
 {
-    let said = sinks::check_sinks(xs, ys, delays, 12);
-    if let Checked::Refused(r) = said {
-        return Checked::Refused(r);
-    }
+    sinks::check_sinks(xs, ys, delays, 12)?;
     check_rooms(xs.len(), table, js, us, vs, ws)
 }

@@ -1,14 +1,15 @@
 // The exact search with a budget.
 ghost use Rattle.std.specs.Prelude.{◌≡◌, ◌<◌, ◌*◌, ◌-◌};
 ghost use Rattle.lists.specs.Grow.{front};
+ghost use Rattle.plane.specs.Said.{told};
 ghost use Rattle.plane.specs.Sinks.{sinks_at};
 ghost use Rattle.search.specs.Prepared.{Prepared, Provided, Tabled, Joins, Finds};
-ghost use Rattle.search.specs.Searching.{joins_found, Searches, told_search};
+ghost use Rattle.search.specs.Searching.{joins_found, Searches};
 
 use crate::{kept, rooms};
 use embedding::embed;
 use nearest::order;
-use plane::refusal::{Checked, Refusal};
+use plane::refusal::Refusal;
 use splits::fill;
 use subsets::{square, subset};
 
@@ -18,13 +19,6 @@ pub struct Found {
     pub total: u32,
     pub steps: u64,
     pub proven: bool,
-}
-
-// What the search comes to.
-#[derive(Clone, Copy)]
-pub enum Searched {
-    Tree(Found),
-    NoTree(Refusal),
 }
 
 // Writes the joins that the budget allows: of the kept splits, or by least diameter.
@@ -106,10 +100,10 @@ pub fn search(
     us: &mut [i32],
     vs: &mut [i32],
     ws: &mut [u32],
-) -> Searched
-    ensures { Searches xs.now ys.now delays.now budget table.old js.old us.old vs.old ws.old (told_search result) table.new js.new us.new vs.new ws.new }
+) -> Result<Found, Refusal>
+    ensures { Searches xs.now ys.now delays.now budget table.old js.old us.old vs.old ws.old (told result) table.new js.new us.new vs.new ws.new }
 {
-    let said = rooms::check_search(
+    rooms::check_search(
         xs,
         ys,
         delays,
@@ -118,9 +112,6 @@ pub fn search(
         us.len(),
         vs.len(),
         ws.len(),
-    );
-    if let Checked::Refused(r) = said {
-        return Searched::NoTree(r);
-    }
-    Searched::Tree(search_sound(xs, ys, delays, budget, table, js, us, vs, ws))
+    )?;
+    Ok(search_sound(xs, ys, delays, budget, table, js, us, vs, ws))
 }

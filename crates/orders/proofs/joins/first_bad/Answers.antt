@@ -1,85 +1,56 @@
-use mathlib.Core.Path.{refl, sym, ◌∙◌}
+use mathlib.Core.Path.{◌≡◌, refl, sym, ◌∙◌}
+use Prim.Native.Nat.{◌-◌, ◌<◌}
 use native.Mathlib.Omega.{arith}
+use borrow.Author.Tests.{lt-ltb}
 use lib.ListN.{length-set}
-use Rattle.lists.proofs.First.{seek_begin, seek_go, seek_stop, seek_end}
-use Rattle.orders.proofs.Flags.{flags_begin, flags_pair, bad_unlike, bad_left, bad_right, bad_not, pair_small}
+use Rattle.std.specs.Prelude.{true, ltb}
+use Rattle.lists.proofs.First.{seek_begin, seek_go, seek_stop}
+use Rattle.orders.specs.Joins.{bad_pair, first_bad}
+use Rattle.orders.proofs.Flags.{flags_begin, flags_pair, bad_unlike, bad_left, bad_right, bad_not, pair_small, in_chunks}
 use Rattle.orders.proofs.joins.first_bad.Goals as goal
+use Rattle.orders.proofs.joins.first_bad.Goals.{then-is_unlike-via-then-is_unlike, then-is_unlike-via-else-is_unlike+then-named-a, then-is_unlike-via-else-is_unlike+else-named-a+then-named-b}
 
 pub loop-i-init : goal.loop-i-init
 loop-i-init c = (refl, seek_begin, flags_begin c.args.js.now)
 
 pub returns-then-is_unlike : goal.returns-then-is_unlike
 returns-then-is_unlike c =
-    let a = c.args in
+    let n = c.args.n in
+    let js = c.args.js.now in
     let i = c.loop-i.i in
-    seek_stop c.loop-i.invariant.1 c.loop-i-test.true
-    (bad_unlike a.n a.js.now i c.entry-a.result c.entry-b.result c.entry-a.ensures c.entry-b.ensures
-    (sym c.is_unlike.ensures ∙ c.if-is_unlike.true))
-
-pub bounds-named-a : goal.bounds-named-a
-bounds-named-a c = omega (
-  arith,
-  pair_small c.args.n c.loop-i.i c.entry-a.result c.entry-b.result c.requires.1 c.loop-i-test.true (sym c.is_unlike.ensures ∙ c.if-is_unlike.false),
-)
-
-pub returns-then-named-a : goal.returns-then-named-a
-returns-then-named-a c =
-    let a = c.args in
-    let i = c.loop-i.i in
-    let x = c.entry-a.result in
-    seek_stop c.loop-i.invariant.1 c.loop-i-test.true
-    (bad_left a.n a.js.now i x c.entry-b.result c.entry-a.ensures c.entry-b.ensures
-    (sym c.is_unlike.ensures ∙ c.if-is_unlike.false)
-    (sym (c.loop-i.invariant.2 x (omega (
-      arith,
-      pair_small c.args.n c.loop-i.i c.entry-a.result c.entry-b.result c.requires.1 c.loop-i-test.true (sym c.is_unlike.ensures ∙ c.if-is_unlike.false),
-    ))) ∙ c.if-named-a.true))
-
-pub bounds-named-b : goal.bounds-named-b
-bounds-named-b c = omega (
-  arith,
-  pair_small c.args.n c.loop-i.i c.entry-a.result c.entry-b.result c.requires.1 c.loop-i-test.true (sym c.is_unlike.ensures ∙ c.if-is_unlike.false),
-)
-
-pub returns-then-named-b : goal.returns-then-named-b
-returns-then-named-b c =
-    let a = c.args in
-    let i = c.loop-i.i in
-    let y = c.entry-b.result in
-    seek_stop c.loop-i.invariant.1 c.loop-i-test.true
-    (bad_right a.n a.js.now i c.entry-a.result y c.entry-a.ensures c.entry-b.ensures
-    (sym c.is_unlike.ensures ∙ c.if-is_unlike.false)
-    (sym (c.loop-i.invariant.2 y (omega (
-      arith,
-      pair_small c.args.n c.loop-i.i c.entry-a.result c.entry-b.result c.requires.1 c.loop-i-test.true (sym c.is_unlike.ensures ∙ c.if-is_unlike.false),
-    ))) ∙ c.if-named-b.true))
-
-pub bounds-named-a-in-loop-i : goal.bounds-named-a-in-loop-i
-bounds-named-a-in-loop-i c = omega (
-  arith,
-  pair_small c.args.n c.loop-i.i c.entry-a.result c.entry-b.result c.requires.1 c.loop-i-test.true (sym c.is_unlike.ensures ∙ c.if-is_unlike.false),
-)
-
-pub bounds-named-b-in-loop-i : goal.bounds-named-b-in-loop-i
-bounds-named-b-in-loop-i c = omega (
-  arith,
-  pair_small c.args.n c.loop-i.i c.entry-a.result c.entry-b.result c.requires.1 c.loop-i-test.true (sym c.is_unlike.ensures ∙ c.if-is_unlike.false),
-)
+    let h : i < n - 1 = omega (arith, c.loop-i-test.true, c.as_chunks.ensures.front_len, c.requires.2) in
+    let p = in_chunks js i c.as_chunks.ensures.front (omega (arith, c.loop-i-test.true, c.as_chunks.ensures.front_len)) in
+    let l = c.from-a.ensures ∙ p.0 in
+    let r = c.from-b.ensures ∙ p.1 in
+    let f = c.loop-i.invariant.2 in
+    let bad : bad_pair n js i ≡ true = elim c.then-is_unlike.branch [
+      | then-is_unlike-via-then-is_unlike w ↦ bad_unlike n js i _ _ l r (sym c.is_unlike.ensures ∙ w.if-is_unlike.true)
+      | then-is_unlike-via-else-is_unlike+then-named-a w ↦ (
+          let u = sym c.is_unlike.ensures ∙ w.if-is_unlike.false in
+          let small = pair_small n i c.from-a.result c.from-b.result c.requires.1 h u in
+          bad_left n js i _ _ l r u (sym (f _ (omega arith)) ∙ w.if-named-a.true))
+      | then-is_unlike-via-else-is_unlike+else-named-a+then-named-b w ↦ (
+          let u = sym c.is_unlike.ensures ∙ w.if-is_unlike.false in
+          let small = pair_small n i c.from-a.result c.from-b.result c.requires.1 h u in
+          bad_right n js i _ _ l r u (sym (f _ (omega arith)) ∙ w.if-named-b.true))
+    ] in
+    let e : i ≡ first_bad n js = seek_stop c.loop-i.invariant.1 h bad in
+    let t : ltb (first_bad n js) (n - 1) ≡ true = lt-ltb _ _ (omega arith) in
+    rw (t, ← e)
 
 pub loop-i-preserved : goal.loop-i-preserved
 loop-i-preserved c =
-    let a = c.args in
+    let n = c.args.n in
+    let js = c.args.js.now in
     let i = c.loop-i.i in
-    let x = c.entry-a.result in
-    let y = c.entry-b.result in
-    let l = pair_small c.args.n c.loop-i.i c.entry-a.result c.entry-b.result c.requires.1 c.loop-i-test.true (sym c.is_unlike.ensures ∙ c.if-is_unlike.false) in
+    let h : i < n - 1 = omega (arith, c.loop-i-test.true, c.as_chunks.ensures.front_len, c.requires.2) in
+    let p = in_chunks js i c.as_chunks.ensures.front (omega (arith, c.loop-i-test.true, c.as_chunks.ensures.front_len)) in
+    let l = c.from-a.ensures ∙ p.0 in
+    let r = c.from-b.ensures ∙ p.1 in
+    let u = sym c.is_unlike.ensures ∙ c.if-is_unlike.false in
+    let small = pair_small n i c.from-a.result c.from-b.result c.requires.1 h u in
     let f = c.loop-i.invariant.2 in (
       simp length-set (omega arith),
-      seek_go c.loop-i.invariant.1 c.loop-i-test.true
-          (bad_not a.n a.js.now i x y c.entry-a.ensures c.entry-b.ensures
-          (sym c.is_unlike.ensures ∙ c.if-is_unlike.false) (sym (f x (omega arith)) ∙ c.if-named-a.false) (sym (f y (omega arith)) ∙ c.if-named-b.false)),
-      flags_pair a.js.now i x y c.loop-i.named c.entry-a.ensures c.entry-b.ensures (omega arith) (omega arith) f,
+      seek_go c.loop-i.invariant.1 h (bad_not n js i _ _ l r u (sym (f _ (omega arith)) ∙ c.if-named-a.false) (sym (f _ (omega arith)) ∙ c.if-named-b.false)),
+      flags_pair js i _ _ c.loop-i.named l r (omega arith) (omega arith) f,
     )
-
-pub returns : goal.returns
-returns c = seek_end c.loop-i.invariant.1 c.loop-i-test.false

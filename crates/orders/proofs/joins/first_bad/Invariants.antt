@@ -8,6 +8,3 @@ use Rattle.orders.proofs.joins.first_bad.Given as goal
 
 abbrev pub invariant-loop-i : goal.invariant-loop-i
 invariant-loop-i l = (length l.named ≡ 1023) × Seek (bad_pair l.n l.js) (l.n - 1) l.i × Flags l.js (2 * l.i) l.named
-
-abbrev pub decreases-loop-i : goal.decreases-loop-i
-decreases-loop-i l = l.n - 1 - l.i
