@@ -2,10 +2,11 @@
 use mathlib.Core.Path.{◌≡◌, refl, sym, ◌∙◌}
 use mathlib.Core.List.{List, [], ◌∷◌, ◌++◌}
 use Prim.Native.Nat.{ℕ, zero, suc, ◌+◌, ◌*◌, ◌/◌, ◌%◌, ◌≤◌, ◌<◌, ◌^◌}
-use native.Mathlib.Nat.{zero-add, pow-succ'}
+use native.Mathlib.Nat.{zero-add, add-zero, pow-succ'}
 use native.Mathlib.Omega.{arith}
 use lib.ListN.{length, get_or, take, drop, length-append, length-drop, get_or-append}
 use lib.Seq.{take-suc, get_or_at, get_or-drop, get_or-append-add}
+use Rattle.std.specs.Int.{w16, w32, to_be_bytes, from_be_bytes}
 use Rattle.fields.specs.Bytes.{big, number_at, Bytes}
 
 pub length-big : (w n : ℕ) → length (big w n) ≡ w
@@ -57,3 +58,23 @@ pub number_fits : (w : ℕ) (f : List ℕ) (i : ℕ) → Bytes f → number_at w
 unfolding number_at
 number_fits zero f i b = omega arith
 number_fits (suc w) f i b = omega (arith, number_fits w f i b, b.byte (i + w), pow-succ' 256 w)
+
+-- Rust's own bytes of a number, and the number of such bytes
+pub be_big2 : (n : ℕ) → to_be_bytes w16 n ≡ big 2 n
+unfolding big
+be_big2 n = refl
+
+pub be_big4 : (n : ℕ) → to_be_bytes w32 n ≡ big 4 n
+unfolding big
+be_big4 n =
+    let a : n / 256 ^ 3 % 256 ≡ n / 256 / 256 / 256 % 256 = omega arith in
+    let b : n / 256 ^ 2 % 256 ≡ n / 256 / 256 % 256 = omega arith in
+    cc
+
+pub be_number2 : (f : List ℕ) (i : ℕ) → from_be_bytes w16 (get_or f i 0 ∷ get_or f (i + 1) 0 ∷ []) ≡ number_at 2 f i
+unfolding number_at
+be_number2 f i = rw add-zero (omega arith)
+
+pub be_number4 : (f : List ℕ) (i : ℕ) → from_be_bytes w32 (get_or f i 0 ∷ get_or f (i + 1) 0 ∷ get_or f (i + 2) 0 ∷ get_or f (i + 3) 0 ∷ []) ≡ number_at 4 f i
+unfolding number_at
+be_number4 f i = rw add-zero (omega arith)

@@ -7,11 +7,10 @@ use Prim.Native.Nat.{ℕ, zero, suc, ◌+◌, ◌≤◌, ◌<◌}
 use native.Mathlib.Nat.{add-zero}
 use native.Mathlib.Omega.{arith}
 use borrow.Author.Tests.{le-ltb, lt-leb, eq-eqb}
+use Rattle.std.specs.Prelude.{Ok}
 use lib.ListN.{length, get_or, take, drop, length-append, length-take, length-drop, take-append-drop, drop_of_length-le, get_or-eq_default}
 use lib.Seq.{length-take-le, take_at, drop_at, drop-cons, drop-drop, get_or_at, get_or-take, get_or-drop}
 use Rattle.lists.proofs.Tests.{or_lt}
-use Rattle.plane.specs.declared.refusal.Checked.TheVariants.{Fine}
-use Rattle.fields.specs.declared.field.Field.TheVariants.{Until}
 use Rattle.fields.specs.Bytes.{big, Bytes}
 use Rattle.fields.specs.Fields.{field, fields}
 use Rattle.fields.specs.Form.{wrong_length, wrong_version, length_at, next_at, value_at, body_at, field_at, form_from}
@@ -61,7 +60,7 @@ module _ (f p r v : List ℕ) (at tag : ℕ) (e : f ≡ p ++ (field tag v ++ r))
   pub value_there : length v < 65536 → value_at f at ≡ v
   value_there h = rw (length_there h, value_from) (take_at v r (length v) refl)
 
-  pub field_there : Fair tag v → field_at f at tag ≡ Until (next_at f at)
+  pub field_there : Fair tag v → field_at f at tag ≡ Ok (next_at f at)
   unfolding field_at body_at
   field_there g =
       let n = length_there g.small in
@@ -76,7 +75,7 @@ module _ (f p r v : List ℕ) (at tag : ℕ) (e : f ≡ p ++ (field tag v ++ r))
         ap (wrong_version tag) b ∙ g.version r,
       )
 
-pub written_form : (f p : List ℕ) (at tag : ℕ) (vs : List (List ℕ)) → f ≡ p ++ fields tag vs → length p ≡ at → Fairs tag vs → (form_from f (length vs) tag at ≡ Fine) × (values f (length vs) at ≡ vs)
+pub written_form : (f p : List ℕ) (at tag : ℕ) (vs : List (List ℕ)) → f ≡ p ++ fields tag vs → length p ≡ at → Fairs tag vs → (form_from f (length vs) tag at ≡ Ok tt) × (values f (length vs) at ≡ vs)
 unfolding form_from
 written_form f p at tag [] e l none = (rw (le-ltb at (length f) (rw (e, append-nil) (omega arith))), refl)
 written_form f p at tag (v ∷ vs) e l (also g gs) =

@@ -3,7 +3,7 @@ pub mod BigEndian
 pub mod Records
 pub mod Scan
 pub mod Stores
-pub mod TwosComplement
+pub mod Tags
 pub mod Values
 pub mod Standing
 pub mod Fieldwise

@@ -6,11 +6,11 @@ use Prim.Native.Nat.{ℕ, suc, ◌+◌, ◌-◌, ◌≤◌, ◌<◌}
 use native.Mathlib.Numerals.{add-one}
 use native.Mathlib.Omega.{arith}
 use borrow.Author.Tests.{lt-ltb, le-ltb, eqb-true, not-false}
+use Rattle.std.specs.Prelude.{Ok, Err}
 use lib.Dec.{eqb}
 use lib.ListN.{length, take, drop}
+use Rattle.plane.specs.declared.refusal.Refusal.{Refusal}
 use Rattle.plane.specs.declared.refusal.Refusal.TheVariants.{Form}
-use Rattle.plane.specs.declared.refusal.Checked.TheVariants.{Fine, Refused}
-use Rattle.fields.specs.declared.field.Field.TheVariants.{Until, Bad}
 use Rattle.fields.specs.Form.{field_at, form_from, form, past, length_at, next_at, value_at, wrong_length, Formed}
 
 pub record Scan (f : List ℕ) (last at tag : ℕ) : Type 0 where
@@ -25,32 +25,32 @@ module _ (f : List ℕ) (last : ℕ) where
       record { low = omega arith; high = omega arith; same = rw e }
 
   module _ (at tag : ℕ) (s : Scan f last at tag) where
-    pub scan_next : (next : ℕ) → tag ≤ last → field_at f at tag ≡ Until next → Scan f last next (tag + 1)
+    pub scan_next : (next : ℕ) → tag ≤ last → field_at f at tag ≡ Ok next → Scan f last next (tag + 1)
     unfolding form_from
     scan_next next h q =
         let e : last + 1 - tag ≡ suc (last + 1 - (tag + 1)) = omega arith in
         let r : form_from f (last + 1 - tag) tag at ≡ form_from f (last + 1 - (tag + 1)) (suc tag) next = rw (e, q) in
         record { low = omega arith; high = omega arith; same = rw (add-one tag) (sym (rw (add-one tag) at r) ∙ s.same) }
 
-    pub scan_bad : (offset : ℕ) → tag ≤ last → field_at f at tag ≡ Bad offset → Refused (Form offset) ≡ form last f
+    pub scan_bad : (r : Refusal) → tag ≤ last → field_at f at tag ≡ Err r → Err r ≡ form last f
     unfolding form_from
-    scan_bad offset h q =
+    scan_bad o h q =
         let e : last + 1 - tag ≡ suc (last - tag) = omega arith in
-        let r : form_from f (last + 1 - tag) tag at ≡ Refused (Form offset) = rw (e, q) in
+        let r : form_from f (last + 1 - tag) tag at ≡ Err o = rw (e, q) in
         sym r ∙ s.same
 
-    pub scan_more : last < tag → at < length f → Refused (Form at) ≡ form last f
+    pub scan_more : last < tag → at < length f → Err (Form at) ≡ form last f
     unfolding form_from
     scan_more h l =
         let e : last + 1 - tag ≡ 0 = omega arith in
-        let r : form_from f (last + 1 - tag) tag at ≡ Refused (Form at) = rw (e, lt-ltb at (length f) l) in
+        let r : form_from f (last + 1 - tag) tag at ≡ Err (Form at) = rw (e, lt-ltb at (length f) l) in
         sym r ∙ s.same
 
-    pub scan_end : last < tag → length f ≤ at → Fine ≡ form last f
+    pub scan_end : last < tag → length f ≤ at → Ok tt ≡ form last f
     unfolding form_from
     scan_end h l =
         let e : last + 1 - tag ≡ 0 = omega arith in
-        let r : form_from f (last + 1 - tag) tag at ≡ Fine = rw (e, le-ltb at (length f) l) in
+        let r : form_from f (last + 1 - tag) tag at ≡ Ok tt = rw (e, le-ltb at (length f) l) in
         sym r ∙ s.same
 
 pub past_more : (f : List ℕ) (k : ℕ) → past f (k + 1) ≡ next_at f (past f k)

@@ -6,14 +6,13 @@ use mathlib.Core.Logic.{⊎_elim}
 use Prim.Native.Nat.{ℕ, zero, suc, ◌+◌, ◌≤◌, ◌<◌}
 use native.Mathlib.Omega.{arith}
 use borrow.Author.Tests.{ltb-false, eqb-true, not-false}
+use Rattle.std.specs.Prelude.{Result, Ok, Err}
 use lib.Dec.{eqb, ltb, leb}
 use lib.ListN.{length, get_or}
 use Rattle.lists.proofs.Tests.{or_lt}
-use Rattle.plane.specs.declared.refusal.Checked.TheVariants.{Fine}
+use Rattle.plane.specs.declared.refusal.Refusal.{Refusal}
 use Rattle.plane.specs.declared.refusal.Refusal.TheVariants.{Form}
 use Rattle.plane.proofs.Checks.{passed}
-use Rattle.fields.specs.declared.field.Field.{Field}
-use Rattle.fields.specs.declared.field.Field.TheVariants.{Until, Bad}
 use Rattle.fields.specs.Form.{wrong_length, wrong_version, length_at, next_at, bad_if, body_at, field_at, after_field, form_from, form, past, Formed}
 
 -- the field of a tag stands at byte `at`
@@ -29,11 +28,11 @@ pub data Whole (f : List ℕ) : ℕ → ℕ → ℕ → Type 0 where
   done : {tag at : ℕ} → length f ≤ at → Whole f zero tag at
   more : {k tag at : ℕ} → Stands f at tag → Whole f k (suc tag) (next_at f at) → Whole f (suc k) tag at
 
-good : (t : Bool) (o n : ℕ) (e : Field) → bad_if t o e ≡ Until n → (t ≡ false) × (e ≡ Until n)
+good : (t : Bool) (o n : ℕ) (e : Result ℕ Refusal) → bad_if t o e ≡ Ok n → (t ≡ false) × (e ≡ Ok n)
 good true o n e q = let z : ◌≡◌ {A = ℕ} 0 1 = cc in let b : ⊥ = omega arith in absurd b
 good false o n e q = (refl, q)
 
-stands : (f : List ℕ) (at tag next : ℕ) → field_at f at tag ≡ Until next → Stands f at tag × (next_at f at ≡ next)
+stands : (f : List ℕ) (at tag next : ℕ) → field_at f at tag ≡ Ok next → Stands f at tag × (next_at f at ≡ next)
 unfolding field_at body_at
 stands f at tag next q =
     let a = good (leb (length f) at) (length f) next _ q in
@@ -54,14 +53,14 @@ stands f at tag next q =
     )
 
 -- a file of the form is whole
-pub whole : (f : List ℕ) (k tag at : ℕ) → form_from f k tag at ≡ Fine → Whole f k tag at
+pub whole : (f : List ℕ) (k tag at : ℕ) → form_from f k tag at ≡ Ok tt → Whole f k tag at
 unfolding form_from
-whole f zero tag at q = done (ltb-false at (length f) (passed (ltb at (length f)) (Form at) Fine q).0)
+whole f zero tag at q = done (ltb-false at (length f) (passed (ltb at (length f)) (Form at) (Ok tt) q).0)
 whole f (suc k) tag at q = go (field_at f at tag) refl q (whole f k (suc tag))
   where
-    go : (r : Field) → field_at f at tag ≡ r → after_field r (form_from f k (suc tag)) ≡ Fine → ((next : ℕ) → form_from f k (suc tag) next ≡ Fine → Whole f k (suc tag) next) → Whole f (suc k) tag at
-    go (Until next) e p rest = let (s, n) = stands f at tag next e in more s (rest (next_at f at) (rw n p))
-    go (Bad o) e p rest = let z : ◌≡◌ {A = ℕ} 0 1 = cc in let b : ⊥ = omega arith in absurd b
+    go : (r : Result ℕ Refusal) → field_at f at tag ≡ r → after_field r (form_from f k (suc tag)) ≡ Ok tt → ((next : ℕ) → form_from f k (suc tag) next ≡ Ok tt → Whole f k (suc tag) next) → Whole f (suc k) tag at
+    go (Ok next) e p rest = let (s, n) = stands f at tag next e in more s (rest (next_at f at) (rw n p))
+    go (Err o) e p rest = let z : ◌≡◌ {A = ℕ} 0 1 = cc in let b : ⊥ = omega arith in absurd b
 
 -- its fields lie in it
 lies : (f : List ℕ) (k j t : ℕ) → Whole f k (suc j) (past f j) → j ≤ t → t < j + k → (past f t + 3 ≤ length f) × (past f (suc t) ≤ length f)
@@ -73,7 +72,7 @@ lies f (suc k) j t (more s w) l h =
     (λ g. let e : t ≡ j = omega arith in rw e (s.header, s.within))
     (or_lt j t)
 
-pub formed : (last : ℕ) (f : List ℕ) → form last f ≡ Fine → Formed last f
+pub formed : (last : ℕ) (f : List ℕ) → form last f ≡ Ok tt → Formed last f
 unfolding past
 formed last f q =
     let w = whole f last 1 0 q in

@@ -1,14 +1,15 @@
 -- Bytes that are stored one after another.
 use mathlib.Core.Path.{◌≡◌, refl, sym, ap, ◌∙◌}
-use mathlib.Core.List.{List, [], ◌∷◌, ◌++◌}
-use Prim.Native.Nat.{ℕ, suc, ◌+◌, ◌*◌, ◌/◌, ◌%◌, ◌≤◌}
+use mathlib.Core.List.{List, [], ◌∷◌, ◌++◌, append_assoc}
+use Prim.Native.Nat.{ℕ, suc, ◌+◌, ◌-◌, ◌*◌, ◌≤◌}
 use native.Mathlib.Nat.{zero-add}
 use native.Mathlib.Numerals.{add-one}
 use native.Mathlib.Omega.{arith}
-use lib.ListN.{length, set, length-append}
+use lib.ListN.{length, set, take, drop, length-append}
 use lib.Seq.{sets, sets-eq, length-sets}
+use borrow.Rule.Slice.PartMut.{put_mid, Post-is}
 use Rattle.lists.specs.Grow.{front}
-use Rattle.fields.specs.Bytes.{big, number_at}
+use Rattle.fields.specs.Bytes.{big}
 use Rattle.fields.specs.Fields.{field, records}
 use Rattle.fields.specs.Code.{Put}
 use Rattle.fields.proofs.BigEndian.{length-big}
@@ -24,26 +25,15 @@ pub put_two : {a b : List ℕ} {m m' n n' : ℕ} (old : List ℕ) (at w : ℕ) �
 put_two {a} {b} {m} {m'} {n} {n'} old at w p e q g =
     rw (sym e, sym g) (q ∙ ap (λ (l : List ℕ). sets l (at + w) (big w n)) p ∙ sets_more old at (big w m) (big w n) (at + w) (rw length-big))
 
+-- bytes that are copied over a part
+pub copied : {m new : List ℕ} (old : List ℕ) (at w : ℕ) (bytes : List ℕ) → length bytes ≡ w → at + w ≤ length old → m ≡ bytes → new ≡ put_mid at (at + w - at) old m → new ≡ sets old at bytes
+copied {m} {new} old at w bytes l h e q =
+    let p : at + w ≡ at + length bytes = omega arith in
+    q ∙ rw (e, Post-is at (at + w) old (omega arith), p) (sym (sets-eq bytes old at (omega arith) ∙ append_assoc (take at old) bytes (drop (at + length bytes) old)))
+
 -- stores from the front
 pub sets_front : (new old : List ℕ) → length new ≤ length old → sets old 0 new ≡ front new old
 sets_front new old h = sets-eq new old 0 (omega arith) ∙ rw zero-add
-
--- 4 bytes are 2 and 2
-pub big-halves : (n : ℕ) → big 4 n ≡ big 2 (n / 65536) ++ big 2 (n % 65536)
-unfolding big
-big-halves n =
-    let a : n / 256 / 256 / 256 % 256 ≡ n / 65536 / 256 % 256 = omega arith in
-    let b : n / 256 / 256 % 256 ≡ n / 65536 % 256 = omega arith in
-    let c : n / 256 % 256 ≡ n % 65536 / 256 % 256 = omega arith in
-    let d : n % 256 ≡ n % 65536 % 256 = omega arith in
-    cc
-
-pub number-halves : (f : List ℕ) (i : ℕ) → number_at 4 f i ≡ number_at 2 f i * 65536 + number_at 2 f (i + 2)
-unfolding number_at
-number-halves f i =
-    let a : i + 2 + 0 ≡ i + 2 = omega arith in
-    let b : i + 2 + 1 ≡ i + 3 = omega arith in
-    rw (a, b) (omega arith)
 
 -- the first i records of r are stored from byte `at` on
 pub record Laid (r : ℕ → List ℕ) (at i : ℕ) (old l : List ℕ) : Type 0 where

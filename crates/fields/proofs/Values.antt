@@ -32,9 +32,9 @@ pub length-place : (xs ys : List ℤ) (i : ℕ) → length (place xs ys i) ≡ 8
 length-place xs ys i =
     simp length-append (omega (arith, length-big 4 (bits (get_or xs i (pos 0))), length-big 4 (bits (get_or ys i (pos 0)))))
 
-pub length-places : (xs ys : List ℤ) → length (places xs ys) ≡ 8 * length xs
+pub length_places : (xs ys : List ℤ) → length (places xs ys) ≡ 8 * length xs
 unfolding places
-length-places xs ys = length-records (place xs ys) 8 (length-place xs ys) (length xs)
+length_places xs ys = length-records (place xs ys) 8 (length-place xs ys) (length xs)
 
 -- numbers with sign that 4 bytes hold
 pub record Wide (xs : List ℤ) : Type 0 where
@@ -42,7 +42,7 @@ pub record Wide (xs : List ℤ) : Type 0 where
 
 module _ (xs ys : List ℤ) where
   counted : length (places xs ys) / 8 ≡ length xs
-  counted = omega (arith, length-places xs ys)
+  counted = omega (arith, length_places xs ys)
 
   first_at : Wide xs → (i : ℕ) → i < length xs → signed (number_at 4 (places xs ys) (8 * i)) ≡ get_or xs i (pos 0)
   unfolding places
@@ -69,13 +69,13 @@ module _ (xs ys : List ℤ) where
   seconds_back a e =
       rw (counted, e) (tab_same _ _ (length ys) (λ i h. second_at a i (rw e h)) ∙ tab_list ys (pos 0))
 
-pub length-firsts : (v : List ℕ) → length (firsts v) ≡ length v / 8
+pub length_firsts : (v : List ℕ) → length (firsts v) ≡ length v / 8
 unfolding firsts
-length-firsts v = length-grow _ (length v / 8)
+length_firsts v = length-grow _ (length v / 8)
 
-pub length-seconds : (v : List ℕ) → length (seconds v) ≡ length v / 8
+pub length_seconds : (v : List ℕ) → length (seconds v) ≡ length v / 8
 unfolding seconds
-length-seconds v = length-grow _ (length v / 8)
+length_seconds v = length-grow _ (length v / 8)
 
 pub first_in : (v : List ℕ) (i : ℕ) → i < length v / 8 → get_or (firsts v) i (pos 0) ≡ signed (number_at 4 v (8 * i))
 unfolding firsts
@@ -118,9 +118,9 @@ module _ (w : ℕ) where
       let n : length (numbers w ns) / w ≡ length ns = rw length-numbers (mul-div_cancel_left (length ns) some) in
       rw n (tab_same _ _ (length ns) (λ i h. number_at_lem ns i h (a i h)) ∙ tab_list ns 0)
 
-  pub length-numbers_in : (v : List ℕ) → length (numbers_in w v) ≡ length v / w
+  pub length_numbers_in : (v : List ℕ) → length (numbers_in w v) ≡ length v / w
   unfolding numbers_in
-  length-numbers_in v = length-grow _ (length v / w)
+  length_numbers_in v = length-grow _ (length v / w)
 
   pub number_of : (v : List ℕ) (i : ℕ) → i < length v / w → get_or (numbers_in w v) i 0 ≡ number_at w v (w * i)
   unfolding numbers_in

@@ -1,11 +1,7 @@
 -- Document 01, number 8: a file that is not of the form, and the byte offset that is returned.
-use Rattle.std.specs.Prelude.{Bool, cond, not, ◌&&◌, List, ℕ, zero, suc, ◌+◌, ◌-◌, ◌%◌, ◌≤◌, ◌<◌, eqb, ltb, leb, length, get_or, take, drop}
-use Rattle.plane.specs.Refusals.{refusal, refuse_if}
-use Rattle.plane.specs.declared.refusal.Place.TheVariants.{At}
-use Rattle.plane.specs.declared.refusal.Checked.{Checked}
-use Rattle.plane.specs.declared.refusal.Checked.TheVariants.{Fine, Refused}
-use Rattle.fields.specs.declared.field.Field.{Field}
-use Rattle.fields.specs.declared.field.Field.TheVariants.{Until, Bad}
+use Rattle.std.specs.Prelude.{Bool, cond, not, ◌&&◌, List, ℕ, zero, suc, ◌+◌, ◌-◌, ◌%◌, ◌≤◌, ◌<◌, eqb, ltb, leb, length, get_or, take, drop, Some, Result, Ok, Err}
+use Rattle.plane.specs.Refusals.{Checked, refusal, refuse_if}
+use Rattle.plane.specs.declared.refusal.Refusal.{Refusal}
 use Rattle.fields.specs.Bytes.{number_at}
 
 -- "The record sizes of tags 2 to 5 are 8, 4 (a whole pair), 8 and 4."
@@ -30,33 +26,34 @@ next_at f at = at + 3 + length_at f at
 abbrev pub value_at : List ℕ → ℕ → List ℕ
 value_at f at = take (length_at f at) (drop (at + 3) f)
 
-abbrev pub bad_if : Bool → ℕ → Field → Field
-bad_if condition offset next = cond condition (Bad offset) next
+-- what stands where a field is due: the byte that the field ends before, or a refusal
+abbrev pub bad_if : Bool → ℕ → Result ℕ Refusal → Result ℕ Refusal
+bad_if condition offset next = cond condition (Err (refusal 8 (Some offset))) next
 
 -- "a value running past the end, a length that is no multiple of its record size (tag 1: not 1), or a version other than 1 gives the offset of that tag"
-unfoldable pub body_at : List ℕ → ℕ → ℕ → Field
+unfoldable pub body_at : List ℕ → ℕ → ℕ → Result ℕ Refusal
 body_at f at tag =
     bad_if (wrong_length tag (length_at f at)) at
     (bad_if (ltb (length f) (next_at f at)) at
     (bad_if (wrong_version tag (get_or f (at + 3) 0)) at
-    (Until (next_at f at))))
+    (Ok (next_at f at))))
 
 -- The field that is due at byte `at`: "a wrong tag gives the offset of that tag; a file that ends before or inside a tag's first three bytes
 -- gives its own length; the lowest offset counts".
-unfoldable pub field_at : List ℕ → ℕ → ℕ → Field
+unfoldable pub field_at : List ℕ → ℕ → ℕ → Result ℕ Refusal
 field_at f at tag =
     bad_if (leb (length f) at) (length f)
     (bad_if (not (eqb (get_or f at 0) tag)) at
     (bad_if (ltb (length f) (at + 3)) (length f)
     (body_at f at tag)))
 
-abbrev pub after_field : Field → (ℕ → Checked) → Checked
-after_field (Until next) go = go next
-after_field (Bad offset) go = Refused (refusal 8 (At offset))
+abbrev pub after_field : Result ℕ Refusal → (ℕ → Checked) → Checked
+after_field (Ok next) go = go next
+after_field (Err r) go = Err r
 
 -- so many fields from a tag on; "one that goes on gives the first byte too many"
 unfoldable pub form_from : List ℕ → ℕ → ℕ → ℕ → Checked
-form_from f zero tag at = refuse_if (ltb at (length f)) (refusal 8 (At at)) Fine
+form_from f zero tag at = refuse_if (ltb at (length f)) (refusal 8 (Some at)) (Ok tt)
 form_from f (suc k) tag at = after_field (field_at f at tag) (form_from f k (suc tag))
 
 -- "A sink file has tags 1, 2; a joined file 1 to 3; a tree file 1 to 5": number 8 for a file with the tags from 1 to `last`

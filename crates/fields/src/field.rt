@@ -2,37 +2,23 @@
 ghost use Rattle.std.specs.Prelude.{◌≡◌, ◌∷◌, ◌+◌, ◌≤◌, ◌<◌, length};
 ghost use Rattle.std.proofs.lemmas.List.Edits.{sets};
 ghost use Rattle.fields.specs.Bytes.{big};
-ghost use Rattle.fields.specs.Form.{record_size, wrong_length, next_at, body_at, field_at, form, past, value_of, Formed};
+ghost use Rattle.fields.specs.Tags.{tag_number};
+ghost use Rattle.fields.specs.Form.{wrong_length, next_at, body_at, field_at, form, past, value_of, Formed};
 
-use crate::number;
-use plane::refusal::{Checked, Refusal};
+use crate::number::Number;
+use crate::tag::Tag;
+use plane::refusal::Refusal;
 
-// What stands where a field is due: a field that ends before a byte, or the offset of number 8.
-#[derive(Clone, Copy)]
-pub enum Field {
-    Until(usize),
-    Bad(usize),
-}
-
-fn record_size(tag: u8) -> u16
-    ensures { (result ≡ record_size tag) × (0 < result) }
+fn is_wrong_length(tag: Tag, long: u16) -> bool
+    ensures { result ≡ wrong_length (tag_number tag) long }
 {
-    if tag == 2 {
-        return 8;
+    match tag {
+        Tag::Version => long != 1,
+        Tag::Sinks => long % 8 != 0,
+        Tag::Joins => long % 4 != 0,
+        Tag::Places => long % 8 != 0,
+        Tag::Wires => long % 4 != 0,
     }
-    if tag == 3 {
-        return 4;
-    }
-    if tag == 4 { 8 } else { 4 }
-}
-
-fn is_wrong_length(tag: u8, long: u16) -> bool
-    ensures { result ≡ wrong_length tag long }
-{
-    if tag == 1 {
-        return long != 1;
-    }
-    long % record_size(tag) != 0
 }
 
 // The byte after the field at `at`.
@@ -40,100 +26,91 @@ fn next_at(file: &[u8], at: usize) -> usize
     requires { at + 3 ≤ length file.now }
     ensures { result ≡ next_at file.now at }
 {
-    at + 3 + number::read2(file, at + 1) as usize
+    at + 3 + usize::from(u16::read(file, at + 1))
 }
 
-// The field that is due at byte `at`, whose header is whole and bears its tag.
-fn read_value(file: &[u8], at: usize, tag: u8) -> Field
+// The byte after the field that is due at byte `at`, whose header is whole and bears its tag.
+#[tactic(auto, using(crate::proofs::Tags::other), unfolding(crate::specs::Form::body_at))]
+fn read_value(file: &[u8], at: usize, tag: Tag) -> Result<usize, Refusal>
     requires { at + 3 ≤ length file.now }
-    ensures { result ≡ body_at file.now at tag }
+    ensures { result ≡ body_at file.now at (tag_number tag) }
 {
-    if is_wrong_length(tag, number::read2(file, at + 1)) {
-        return Field::Bad(at);
+    if is_wrong_length(tag, u16::read(file, at + 1)) {
+        return Err(Refusal::Form(at));
     }
     let next = next_at(file, at);
     if file.len() < next {
-        return Field::Bad(at);
+        return Err(Refusal::Form(at));
     }
-    if tag == 1 {
+    if let Tag::Version = tag {
         if file[at + 3] != 1 {
-            return Field::Bad(at);
+            return Err(Refusal::Form(at));
         }
     }
-    Field::Until(next)
+    Ok(next)
 }
 
-// The field that is due at byte `at`.
-fn read_field(file: &[u8], at: usize, tag: u8) -> Field
-    ensures { result ≡ field_at file.now at tag }
+// The byte after the field that is due at byte `at`.
+#[tactic(auto, unfolding(crate::specs::Form::field_at))]
+fn read_field(file: &[u8], at: usize, tag: Tag) -> Result<usize, Refusal>
+    ensures { result ≡ field_at file.now at (tag_number tag) }
 {
     let n = file.len();
     if n <= at {
-        return Field::Bad(n);
+        return Err(Refusal::Form(n));
     }
-    if file[at] != tag {
-        return Field::Bad(at);
+    if file[at] != tag.byte() {
+        return Err(Refusal::Form(at));
     }
     if n - at < 3 {
-        return Field::Bad(n);
+        return Err(Refusal::Form(n));
     }
     read_value(file, at, tag)
 }
 
-// Number 8 for a file with the tags from 1 to `last`.
-pub fn check_form(file: &[u8], last: u8) -> Checked
-    requires { last ≤ 5 }
-    ensures { result ≡ form last file.now }
+// Number 8 for a file with the tags up to `last`.
+pub fn check_form(file: &[u8], last: Tag) -> Result<(), Refusal>
+    ensures { result ≡ form (tag_number last) file.now }
 {
     let mut at = 0;
-    let mut tag: u8 = 1;
-    while tag <= last {
-        match read_field(file, at, tag) {
-            Field::Until(next) => {
-                at = next;
-            }
-            Field::Bad(offset) => {
-                return Checked::Refused(Refusal::Form(offset));
-            }
-        }
-        tag += 1;
+    for tag in &Tag::ALL[..usize::from(last.byte())] {
+        at = read_field(file, at, *tag)?;
     }
     if at < file.len() {
-        return Checked::Refused(Refusal::Form(at));
+        Err(Refusal::Form(at))
+    } else {
+        Ok(())
     }
-    Checked::Fine
 }
 
 // The byte after the first k fields.
+#[tactic(auto, using(crate::proofs::Scan::past_more), unfolding(crate::specs::Form::past))]
 fn past_fields(file: &[u8], k: usize) -> usize
     requires { Formed k file.now }
     ensures { result ≡ past file.now k }
 {
     let mut at = 0;
-    let mut t = 0;
-    while t < k {
+    for _ in 0..k {
         at = next_at(file, at);
-        t += 1;
     }
     at
 }
 
 // The value of a tag.
-pub fn value(file: &[u8], tag: usize) -> &[u8]
-    requires { (1 ≤ tag) × Formed tag file.now }
-    ensures { result.now ≡ value_of file.now tag }
+#[tactic(auto, using(crate::proofs::Tags::some, crate::proofs::Scan::formed_next))]
+pub fn value(file: &[u8], tag: Tag) -> &[u8]
+    requires { Formed (tag_number tag) file.now }
+    ensures { result.now ≡ value_of file.now (tag_number tag) }
 {
-    let at = past_fields(file, tag - 1);
-    let from = at + 3;
-    let next = next_at(file, at);
-    &file[from..next]
+    let at = past_fields(file, usize::from(tag.byte() - 1));
+    &file[at + 3..next_at(file, at)]
 }
 
 // The tag and the length of a field.
-pub fn put_header(out: &mut [u8], at: usize, tag: u8, long: u16)
+pub fn put_header(out: &mut [u8], at: usize, tag: Tag, long: u16)
     requires { at + 3 ≤ length out.old }
-    ensures { out.new ≡ sets out.old at (tag ∷ big 2 long) }
+    ensures { out.new ≡ sets out.old at (tag_number tag ∷ big 2 long) }
 {
-    out[at] = tag;
-    number::put2(out, at + 1, long);
+    out[at] = tag.byte();
+    long.put(out, at + 1);
 }

@@ -4,3 +4,4 @@
 pub mod field;
 pub mod number;
 pub mod record;
+pub mod tag;

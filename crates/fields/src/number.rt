@@ -1,56 +1,87 @@
 // Numbers as bytes, the highest byte first, read from a slice and written to one.
-ghost use Rattle.std.specs.Prelude.{◌≡◌, ◌+◌, ◌≤◌, ◌<◌, length};
+ghost use Rattle.std.specs.Prelude.{◌≡◌, ℕ, ◌+◌, ◌≤◌, ◌<◌, length};
+ghost use Rattle.std.proofs.Common.{rules};
 ghost use Rattle.std.proofs.lemmas.List.Edits.{sets};
 ghost use Rattle.fields.specs.Bytes.{big, number_at, bits, signed};
 
-// The bits of a number with sign, in two's complement.
-pub fn bits_of(x: i32) -> u32
-    ensures { result ≡ bits x }
-{
-    if 0 <= x {
-        x as u32
-    } else {
-        (x as i64 + 4294967296) as u32
+// A number that stands in so many bytes, as a whole number from 0 on.
+pub trait Number: Copy {
+    const SIZE: usize;
+
+    ghost SIZE: { ℕ };
+
+    ghost whole: { Self → ℕ };
+
+    ghost made: { ℕ → Self };
+
+    fn put(self, out: &mut [u8], at: usize)
+        requires { at + SIZE ≤ length out.old }
+        ensures { out.new ≡ sets out.old at (big SIZE (whole self)) };
+
+    fn read(s: &[u8], at: usize) -> Self
+        requires { at + SIZE ≤ length s.now }
+        ensures { result ≡ made (number_at SIZE s.now at) };
+
+    ghost some: { 0 < SIZE };
+}
+
+impl Number for u16 {
+    const SIZE: usize = 2;
+
+    ghost SIZE = { 2 };
+
+    ghost whole = { λ n. n };
+
+    ghost made = { λ n. n };
+
+    ghost some = { Prim.search rules };
+
+    fn put(self, out: &mut [u8], at: usize) {
+        out[at..at + 2].copy_from_slice(&self.to_be_bytes());
+    }
+
+    fn read(s: &[u8], at: usize) -> u16 {
+        u16::from_be_bytes([s[at], s[at + 1]])
     }
 }
 
-// The number with sign of such bits.
-pub fn signed_of(n: u32) -> i32
-    ensures { result ≡ signed n }
-{
-    if n < 2147483648 {
-        n as i32
-    } else {
-        (n as i64 - 4294967296) as i32
+impl Number for u32 {
+    const SIZE: usize = 4;
+
+    ghost SIZE = { 4 };
+
+    ghost whole = { λ n. n };
+
+    ghost made = { λ n. n };
+
+    ghost some = { Prim.search rules };
+
+    fn put(self, out: &mut [u8], at: usize) {
+        out[at..at + 4].copy_from_slice(&self.to_be_bytes());
+    }
+
+    fn read(s: &[u8], at: usize) -> u32 {
+        u32::from_be_bytes([s[at], s[at + 1], s[at + 2], s[at + 3]])
     }
 }
 
-pub fn read2(s: &[u8], at: usize) -> u16
-    requires { at + 2 ≤ length s.now }
-    ensures { result ≡ number_at 2 s.now at }
-{
-    (s[at] as u16) * 256 + s[at + 1] as u16
-}
+// In two's complement.
+impl Number for i32 {
+    const SIZE: usize = 4;
 
-pub fn read4(s: &[u8], at: usize) -> u32
-    requires { at + 4 ≤ length s.now }
-    ensures { result ≡ number_at 4 s.now at }
-{
-    (read2(s, at) as u32) * 65536 + read2(s, at + 2) as u32
-}
+    ghost SIZE = { 4 };
 
-pub fn put2(out: &mut [u8], at: usize, n: u16)
-    requires { at + 2 ≤ length out.old }
-    ensures { out.new ≡ sets out.old at (big 2 n) }
-{
-    out[at] = (n / 256) as u8;
-    out[at + 1] = (n % 256) as u8;
-}
+    ghost whole = { bits };
 
-pub fn put4(out: &mut [u8], at: usize, n: u32)
-    requires { at + 4 ≤ length out.old }
-    ensures { out.new ≡ sets out.old at (big 4 n) }
-{
-    put2(out, at, (n / 65536) as u16);
-    put2(out, at + 2, (n % 65536) as u16);
+    ghost made = { signed };
+
+    ghost some = { Prim.search rules };
+
+    fn put(self, out: &mut [u8], at: usize) {
+        self.cast_unsigned().put(out, at);
+    }
+
+    fn read(s: &[u8], at: usize) -> i32 {
+        u32::read(s, at).cast_signed()
+    }
 }

@@ -3,12 +3,12 @@ use mathlib.Core.Path.{◌≡◌, sym, ◌∙◌}
 use mathlib.Core.List.{List}
 use Prim.Native.Nat.{ℕ, ◌-◌, ◌*◌, ◌≤◌}
 use native.Mathlib.Omega.{arith}
+use Rattle.std.specs.Prelude.{Ok}
 use lib.IntN.{ℤ}
 use lib.ListN.{length, take}
 use Rattle.plane.specs.Said.{Said}
 use Rattle.plane.specs.Said.Said.{answered}
 use Rattle.plane.specs.Sinks.{prompt, check_sinks}
-use Rattle.plane.specs.declared.refusal.Checked.TheVariants.{Fine}
 use Rattle.plane.proofs.Checks.{both_pass, accepted}
 use Rattle.orders.specs.Joins.{check_order}
 use Rattle.orders.proofs.Bounded.{order-sound}
@@ -17,13 +17,13 @@ use Rattle.house.specs.Files.{sink_file, joined_file}
 use Rattle.fields.specs.Form.{form, value_of}
 use Rattle.house.specs.Writing.{Writes}
 use Rattle.house.specs.Reading.{xs_in, ys_in, joins_in, check_sink_file, check_joined_file, ReadsSinks, ReadsJoins}
-use Rattle.fields.proofs.Values.{length-firsts, length-seconds}
+use Rattle.fields.proofs.Values.{length_firsts, length_seconds}
 use Rattle.house.proofs.RoundTrip.{sinks_back, sinks_kept}
 use Rattle.house.proofs.JoinsTrip.{joins_back, joins_kept}
 use Rattle.house.proofs.Accepting.{FileAgain, writes_file, wrote, SinksAgain, reads_sinks, got_sinks, JoinsAgain, reads_joins, got_joins}
 
 -- ---- sink files
-sinks_fine : (xs ys : List ℤ) → check_sinks 512 xs ys (prompt xs) ≡ Fine → check_sink_file (sink_file xs ys) ≡ Fine
+sinks_fine : (xs ys : List ℤ) → check_sinks 512 xs ys (prompt xs) ≡ Ok tt → check_sink_file (sink_file xs ys) ≡ Ok tt
 unfolding check_sink_file
 sinks_fine xs ys q = let b = sinks_back xs ys q in rw (b.formed, b.same_x, b.same_y) q
 
@@ -38,7 +38,7 @@ sinks_written_read xs ys out out' k w f lent bx by bx' by' said hx hy r =
 
 -- as many x as y stand in any file
 pub alike_in : (f : List ℕ) → length (xs_in f) ≡ length (ys_in f)
-alike_in f = length-firsts (value_of f 2) ∙ sym (length-seconds (value_of f 2))
+alike_in f = length_firsts (value_of f 2) ∙ sym (length_seconds (value_of f 2))
 
 -- read, then written: the lent lists are what the reader said, and the buffer has room for the file
 pub sinks_read_written : (f : List ℕ) → Bytes f → (bx by bx' by' : List ℤ) (n : ℕ) → ReadsSinks (check_sink_file f) (xs_in f) (ys_in f) bx by (answered n) bx' by'
@@ -51,12 +51,12 @@ sinks_read_written f b bx by bx' by' n r xs ys lent-x lent-y out out' said room 
 
 -- ---- joined files
 -- so many node numbers as the sinks of an accepted file have
-pub joins_lent : (f : List ℕ) (n : ℕ) (bj' : List ℕ) → check_order (xs_in f) (ys_in f) (prompt (xs_in f)) (joins_in f) ≡ Fine → n ≡ length (xs_in f) → take (2 * (n - 1)) bj' ≡ take (length (joins_in f)) bj'
+pub joins_lent : (f : List ℕ) (n : ℕ) (bj' : List ℕ) → check_order (xs_in f) (ys_in f) (prompt (xs_in f)) (joins_in f) ≡ Ok tt → n ≡ length (xs_in f) → take (2 * (n - 1)) bj' ≡ take (length (joins_in f)) bj'
 joins_lent f n bj' q e =
     let c : length (joins_in f) ≡ 2 * (length (xs_in f) - 1) = (order-sound (xs_in f) (ys_in f) (prompt (xs_in f)) (joins_in f) q).joins.valid.count in
     rw (e, c)
 
-joined_fine : (xs ys : List ℤ) (js : List ℕ) → check_order xs ys (prompt xs) js ≡ Fine → check_joined_file (joined_file xs ys js) ≡ Fine
+joined_fine : (xs ys : List ℤ) (js : List ℕ) → check_order xs ys (prompt xs) js ≡ Ok tt → check_joined_file (joined_file xs ys js) ≡ Ok tt
 unfolding check_joined_file
 joined_fine xs ys js q = let b = joins_back xs ys js (order-sound xs ys (prompt xs) js q) in rw (b.formed, b.same_x, b.same_y, b.same_j) q
 

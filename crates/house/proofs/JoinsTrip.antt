@@ -4,11 +4,11 @@ use mathlib.Core.List.{List, [], ◌∷◌}
 use Prim.Native.Nat.{ℕ, ◌+◌, ◌/◌, ◌%◌, ◌<◌}
 use native.Mathlib.Omega.{arith}
 use borrow.Author.Tests.{eq-eqb, eqb-true, not-false}
+use Rattle.std.specs.Prelude.{Ok}
 use lib.Dec.{eqb}
 use lib.IntN.{ℤ}
 use lib.ListN.{length, get_or}
 use Rattle.plane.specs.Sinks.{prompt}
-use Rattle.plane.specs.declared.refusal.Checked.TheVariants.{Fine}
 use Rattle.orders.specs.Joins.{left, right}
 use Rattle.orders.specs.Sound.{Ordered, Sound}
 use Rattle.orders.proofs.Accepted.{in_pair}
@@ -38,7 +38,7 @@ fair-nodes n js o =
     record { long = simp (eq-eqb (length (numbers 2 js) % 4) 0 (omega arith)); small = omega arith; version = λ rest. refl }
 
 pub record JoinsBack (xs ys : List ℤ) (js : List ℕ) : Type 0 where
-  pub formed : form 3 (joined_file xs ys js) ≡ Fine
+  pub formed : form 3 (joined_file xs ys js) ≡ Ok tt
   pub same_x : xs_in (joined_file xs ys js) ≡ xs
   pub same_y : ys_in (joined_file xs ys js) ≡ ys
   pub same_j : joins_in (joined_file xs ys js) ≡ js
@@ -65,7 +65,7 @@ nodes_value f b at s =
     let n = value_long f b at 3 s in
     numbers_made 2 (value_at f at) (part_bytes f (length_at f at) (at + 3) b) (omega arith)
 
-pub joins_kept : (f : List ℕ) → Bytes f → form 3 f ≡ Fine → joined_file (xs_in f) (ys_in f) (joins_in f) ≡ f
+pub joins_kept : (f : List ℕ) → Bytes f → form 3 f ≡ Ok tt → joined_file (xs_in f) (ys_in f) (joins_in f) ≡ f
 unfolding joined_file past
 joins_kept f b q = go (whole f 3 1 0 q)
   where

@@ -5,6 +5,7 @@ use mathlib.Core.Logic.{⊎_elim}
 use Prim.Native.Nat.{ℕ, ◌+◌, ◌%◌, ◌≤◌, ◌<◌}
 use native.Mathlib.Omega.{arith}
 use borrow.Author.Tests.{eq-eqb, eqb-true, not-false}
+use Rattle.std.specs.Prelude.{Ok}
 use lib.Dec.{eqb}
 use lib.IntN.{ℤ, pos, negsuc}
 use lib.ListN.{length, get_or, get_or-eq_default}
@@ -14,7 +15,6 @@ use mir.Val.{SFits}
 use Rattle.lists.proofs.Tests.{or_lt}
 use Rattle.measures.specs.Range.{Central}
 use Rattle.plane.specs.Sinks.{prompt, check_sinks, Fitting}
-use Rattle.plane.specs.declared.refusal.Checked.TheVariants.{Fine}
 use Rattle.plane.proofs.Checks.{accepted, fitting}
 use Rattle.measures.proofs.Numbers.{lift_range}
 use Rattle.fields.specs.Bytes.{Bytes}
@@ -22,7 +22,7 @@ use Rattle.fields.specs.Fields.{fields, version, places, firsts, seconds}
 use Rattle.house.specs.Files.{sink_file}
 use Rattle.fields.specs.Form.{length_at, next_at, value_at, value_of, past, form}
 use Rattle.house.specs.Reading.{xs_in, ys_in}
-use Rattle.fields.proofs.Values.{Wide, length-places, firsts_back, seconds_back, places_back}
+use Rattle.fields.proofs.Values.{Wide, length_places, firsts_back, seconds_back, places_back}
 use Rattle.fields.proofs.Scan.{one_byte}
 use Rattle.fields.proofs.Standing.{Stands, Whole, more, whole}
 use Rattle.fields.proofs.Fieldwise.{Fair, none, also, written_form, made, part_bytes, value_long}
@@ -46,16 +46,16 @@ fair-version = record { long = refl; small = omega arith; version = λ rest. ref
 
 pub fair-sinks : (xs ys : List ℤ) → length xs ≤ 1023 → Fair 2 (places xs ys)
 fair-sinks xs ys h =
-    let l = length-places xs ys in
+    let l = length_places xs ys in
     record { long = simp (eq-eqb (length (places xs ys) % 8) 0 (omega arith)); small = omega arith; version = λ rest. refl }
 
 -- ---- sink files
 pub record SinksBack (xs ys : List ℤ) : Type 0 where
-  pub formed : form 2 (sink_file xs ys) ≡ Fine
+  pub formed : form 2 (sink_file xs ys) ≡ Ok tt
   pub same_x : xs_in (sink_file xs ys) ≡ xs
   pub same_y : ys_in (sink_file xs ys) ≡ ys
 
-pub sinks_back : (xs ys : List ℤ) → check_sinks 512 xs ys (prompt xs) ≡ Fine → SinksBack xs ys
+pub sinks_back : (xs ys : List ℤ) → check_sinks 512 xs ys (prompt xs) ≡ Ok tt → SinksBack xs ys
 unfolding sink_file past
 sinks_back xs ys q =
     let m = accepted 512 xs ys (prompt xs) q in
@@ -82,7 +82,7 @@ module _ (f : List ℕ) (b : Bytes f) (at : ℕ) where
       let l : length_at f at % 8 ≡ 0 = eqb-true (length_at f at % 8) 0 (not-false (eqb (length_at f at % 8) 0) s.long) in
       places_back (value_at f at) (part_bytes f (length_at f at) (at + 3) b) (rw (value_long f b at 2 s) l)
 
-pub sinks_kept : (f : List ℕ) → Bytes f → form 2 f ≡ Fine → sink_file (xs_in f) (ys_in f) ≡ f
+pub sinks_kept : (f : List ℕ) → Bytes f → form 2 f ≡ Ok tt → sink_file (xs_in f) (ys_in f) ≡ f
 unfolding sink_file past
 sinks_kept f b q = go (whole f 2 1 0 q)
   where

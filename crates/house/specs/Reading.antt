@@ -1,14 +1,10 @@
 -- What a reader may do. "Reading checks 8, 2 to 6, 9, 7"; "an acceptance changes only the entries that the answer needs, from the front".
 use Rattle.std.specs.Prelude.{◌≡◌, List, ℕ, ℤ, length}
 use Rattle.lists.specs.Grow.{front}
-use Rattle.plane.specs.Said.{Said, refused_by, after, if_answered}
-use Rattle.plane.specs.Said.Said.{answered}
-use Rattle.plane.specs.Refusals.{and_then}
+use Rattle.plane.specs.Said.{Said, after, if_answered}
+use Rattle.plane.specs.Refusals.{Checked, and_then}
 use Rattle.plane.specs.Sinks.{prompt, check_sinks}
-use Rattle.plane.specs.declared.refusal.Checked.{Checked}
 use Rattle.orders.specs.Joins.{check_order}
-use Rattle.house.specs.declared.answer.Reading.{Reading}
-use Rattle.house.specs.declared.answer.Reading.TheVariants.{Sinks, NotRead}
 use Rattle.fields.specs.Fields.{firsts, seconds, numbers_in}
 use Rattle.fields.specs.Form.{form, value_of}
 use Rattle.house.specs.Writing.{room_for}
@@ -30,11 +26,6 @@ check_sink_file f = and_then (form 2 f) (check_sinks 512 (xs_in f) (ys_in f) (pr
 -- refusals 8, 2 to 4 and 6
 unfoldable pub check_joined_file : List ℕ → Checked
 check_joined_file f = and_then (form 3 f) (check_order (xs_in f) (ys_in f) (prompt (xs_in f)) (joins_in f))
-
--- what the enum says: how many sinks, or a refusal's number and place
-abbrev pub told_read : Reading → Said ℕ
-told_read (Sinks n) = answered n
-told_read (NotRead r) = refused_by r
 
 -- what a reader says of a file with these sinks, where the buffers have so much room, and with these joins
 abbrev pub sinks_answer : Checked → List ℤ → ℕ → ℕ → Said ℕ

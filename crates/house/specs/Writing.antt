@@ -1,23 +1,12 @@
 -- What a writer may do. "Building and writing check 1 to 7 in order"; "a refusal changes no lent byte".
-use Rattle.std.specs.Prelude.{◌≡◌, List, ℕ, ltb, length}
+use Rattle.std.specs.Prelude.{◌≡◌, List, ℕ, ltb, length, None, Ok}
 use Rattle.lists.specs.Grow.{front}
-use Rattle.plane.specs.Said.{Said, refused_by, after, if_answered}
-use Rattle.plane.specs.Said.Said.{answered}
-use Rattle.plane.specs.Refusals.{refusal, refuse_if, and_then}
-use Rattle.plane.specs.declared.refusal.Place.TheVariants.{None}
-use Rattle.plane.specs.declared.refusal.Checked.{Checked}
-use Rattle.plane.specs.declared.refusal.Checked.TheVariants.{Fine}
-use Rattle.house.specs.declared.answer.Written.{Written}
-use Rattle.house.specs.declared.answer.Written.TheVariants.{Bytes, NotWritten}
+use Rattle.plane.specs.Said.{Said, after, if_answered}
+use Rattle.plane.specs.Refusals.{Checked, refusal, refuse_if, and_then}
 
 -- "7: a lent buffer is shorter than what the answer fills in it"
 abbrev pub room_for : ℕ → ℕ → Checked
-room_for needed room = refuse_if (ltb room needed) (refusal 7 None) Fine
-
--- what the enum says: how many bytes, or a refusal's number and place
-abbrev pub told_written : Written → Said ℕ
-told_written (Bytes n) = answered n
-told_written (NotWritten r) = refused_by r
+room_for needed room = refuse_if (ltb room needed) (refusal 7 None) (Ok tt)
 
 -- what a writer says of a file, where the buffer has so much room
 abbrev pub write_answer : Checked → List ℕ → ℕ → Said ℕ

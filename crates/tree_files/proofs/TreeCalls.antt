@@ -3,12 +3,12 @@ use mathlib.Core.Path.{◌≡◌, ◌∙◌}
 use mathlib.Core.List.{List}
 use Prim.Native.Nat.{ℕ, ◌-◌, ◌*◌, ◌≤◌}
 use native.Mathlib.Omega.{arith}
+use Rattle.std.specs.Prelude.{Ok}
 use lib.IntN.{ℤ}
 use lib.ListN.{length, take}
 use Rattle.plane.specs.Said.{Said}
 use Rattle.plane.specs.Said.Said.{answered}
 use Rattle.plane.specs.Sinks.{prompt}
-use Rattle.plane.specs.declared.refusal.Checked.TheVariants.{Fine}
 use Rattle.plane.proofs.Checks.{both_pass}
 use Rattle.orders.specs.Joins.{check_order}
 use Rattle.orders.proofs.Bounded.{order-sound}
@@ -22,7 +22,7 @@ use Rattle.house.proofs.Accepting.{FileAgain, writes_file, wrote, JoinsAgain, re
 use Rattle.house.proofs.Calls.{alike_in, joins_lent}
 
 -- The places and the wires are not handed out, and are the same bytes again
-order_in : (f : List ℕ) → check_tree_file f ≡ Fine → check_order (xs_in f) (ys_in f) (prompt (xs_in f)) (joins_in f) ≡ Fine
+order_in : (f : List ℕ) → check_tree_file f ≡ Ok tt → check_order (xs_in f) (ys_in f) (prompt (xs_in f)) (joins_in f) ≡ Ok tt
 unfolding check_tree_file
 order_in f q = (both_pass (check_order (xs_in f) (ys_in f) (prompt (xs_in f)) (joins_in f)) _ (both_pass (form 5 f) _ q).1).0
 

@@ -6,6 +6,7 @@ use mathlib.Core.Logic.{⊎_elim}
 use Prim.Native.Nat.{ℕ, ◌+◌, ◌%◌, ◌≤◌, ◌<◌}
 use native.Mathlib.Omega.{arith}
 use borrow.Author.Tests.{eq-eqb, eqb-true, not-false, ltb-false}
+use Rattle.std.specs.Prelude.{Ok}
 use lib.Dec.{T, eqb, ltb, eqb→eq}
 use lib.IntN.{ℤ, pos, negsuc}
 use lib.ListN.{length, get_or}
@@ -16,7 +17,6 @@ use Rattle.lists.proofs.First.{first_hit, first_none}
 use Rattle.measures.specs.Range.{equal}
 use Rattle.plane.specs.Sinks.{sinks_at, prompt}
 use Rattle.plane.specs.declared.refusal.Refusal.TheVariants.{Tags, Unlike}
-use Rattle.plane.specs.declared.refusal.Checked.TheVariants.{Fine}
 use Rattle.plane.proofs.Checks.{passed, both_pass}
 use Rattle.plane.proofs.Spread.{fitting_spread}
 use Rattle.orders.specs.Nodes.{places_u, places_v, wires}
@@ -28,12 +28,12 @@ use Rattle.fields.specs.Fields.{fields, version, places, numbers, firsts, second
 use Rattle.tree_files.specs.Trees.{tree_file, unlike, check_nodes, check_tags, check_tree_file}
 use Rattle.fields.specs.Form.{length_at, value_at, value_of, past, form}
 use Rattle.house.specs.Reading.{xs_in, ys_in, joins_in}
-use Rattle.fields.proofs.Values.{length-places, length-numbers, length-firsts, length-seconds, firsts_back, seconds_back, numbers_back, places_back, numbers_made}
+use Rattle.fields.proofs.Values.{length_places, length-numbers, length_firsts, length_seconds, firsts_back, seconds_back, numbers_back, places_back, numbers_made}
 use Rattle.fields.proofs.Standing.{Stands, Whole, more, whole}
 use Rattle.fields.proofs.Fieldwise.{values, Fair, none, also, written_form, made, part_bytes, value_long}
 use Rattle.house.proofs.RoundTrip.{wide, wide_x, wide_y, fair-version, fair-sinks, version_back, sinks_value}
 use Rattle.house.proofs.JoinsTrip.{small_nodes, fair-nodes, nodes_value}
-use Rattle.tree_files.proofs.TreeAnswers.{nodes-alike, length_u, length_v, length-wires}
+use Rattle.tree_files.proofs.TreeAnswers.{equal_self, nodes-alike, length_u, length_v, length-wires}
 
 -- ---- tags 4 and 5 that pass are what embedding gives
 equal_is : (a b : ℤ) → T (equal a b) → a ≡ b
@@ -48,14 +48,14 @@ module _ (us vs : List ℤ) (ws : List ℕ) (fu fv : List ℤ) (fw : List ℕ) (
     pub same_v : fv ≡ vs
     pub same_w : fw ≡ ws
 
-  pub nodes_same : check_nodes us vs ws fu fv fw ≡ Fine → Alike
+  pub nodes_same : check_nodes us vs ws fu fv fw ≡ Ok tt → Alike
   unfolding check_nodes
   nodes_same q =
       let a = passed (not (eqb (length fu) (length us) && eqb (length fw) (length us))) Tags _ q in
       let (p, r) = and_both (eqb (length fu) (length us)) (eqb (length fw) (length us)) (not-false _ a.0) in
       let lu : length fu ≡ length us = eqb→eq (length fu) (length us) p in
       let lw : length fw ≡ length us = eqb→eq (length fw) (length us) r in
-      let b = passed (ltb (first (unlike us vs ws fu fv fw) 0 (length us)) (length us)) (Unlike (first (unlike us vs ws fu fv fw) 0 (length us))) Fine a.1 in
+      let b = passed (ltb (first (unlike us vs ws fu fv fw) 0 (length us)) (length us)) (Unlike (first (unlike us vs ws fu fv fw) 0 (length us))) (Ok tt) a.1 in
       let m = ltb-false (first (unlike us vs ws fu fv fw) 0 (length us)) (length us) b.0 in
       record {
         same_u = ext_get_or (pos 0) fu us lu (λ i h. equal_is _ _ (at m i (omega arith)).0);
@@ -86,12 +86,12 @@ module _ (f : List ℕ) (b : Bytes f) (at : ℕ) where
       let n = value_long f b at 5 s in
       numbers_made 4 (value_at f at) (part_bytes f (length_at f at) (at + 3) b) (omega arith)
 
-pub tree_kept : (f : List ℕ) → Bytes f → check_tree_file f ≡ Fine → tree_file (xs_in f) (ys_in f) (joins_in f) ≡ f
+pub tree_kept : (f : List ℕ) → Bytes f → check_tree_file f ≡ Ok tt → tree_file (xs_in f) (ys_in f) (joins_in f) ≡ f
 unfolding tree_file check_tree_file check_tags past
 tree_kept f b q =
     let (a, r) = both_pass (form 5 f) _ q in
     let d = (both_pass (check_order xs ys (prompt xs) js) _ r).1 in
-    go (whole f 5 1 0 a) (nodes_same us vs ws (firsts v4) (seconds v4) (numbers_in 4 v5) (length_u xs ys js ∙ sym (length_v xs ys js)) (length_u xs ys js ∙ sym (length-wires xs ys js)) (length-firsts v4 ∙ sym (length-seconds v4)) d)
+    go (whole f 5 1 0 a) (nodes_same us vs ws (firsts v4) (seconds v4) (numbers_in 4 v5) (length_u xs ys js ∙ sym (length_v xs ys js)) (length_u xs ys js ∙ sym (length-wires xs ys js)) (length_firsts v4 ∙ sym (length_seconds v4)) d)
   where
     xs : List ℤ
     xs = xs_in f
@@ -117,7 +117,7 @@ tree_kept f b q =
     v5 : List ℕ
     v5 = value_of f 5
 
-    go : Whole f 5 1 0 → Alike us vs ws (firsts v4) (seconds v4) (numbers_in 4 v5) (length_u xs ys js ∙ sym (length_v xs ys js)) (length_u xs ys js ∙ sym (length-wires xs ys js)) (length-firsts v4 ∙ sym (length-seconds v4)) → tree_file xs ys js ≡ f
+    go : Whole f 5 1 0 → Alike us vs ws (firsts v4) (seconds v4) (numbers_in 4 v5) (length_u xs ys js ∙ sym (length_v xs ys js)) (length_u xs ys js ∙ sym (length-wires xs ys js)) (length_firsts v4 ∙ sym (length_seconds v4)) → tree_file xs ys js ≡ f
     go (more s (more t (more u (more x (more y w))))) l =
         let p1 = version_back f b 0 s in
         let p2 = sinks_value f b (past f 1) t in
@@ -128,11 +128,7 @@ tree_kept f b q =
         ap (fields 1) e ∙ sym (made f b 5 1 0 (more s (more t (more u (more x (more y w))))))
 
 -- ---- a tree file is read back
-equal_self : (a : ℤ) → equal a a ≡ true
-equal_self (pos a) = eq-eqb a a refl
-equal_self (negsuc a) = eq-eqb a a refl
-
-nodes_fine : (us vs : List ℤ) (ws : List ℕ) → length us ≡ length ws → check_nodes us vs ws us vs ws ≡ Fine
+nodes_fine : (us vs : List ℤ) (ws : List ℕ) → length us ≡ length ws → check_nodes us vs ws us vs ws ≡ Ok tt
 nodes_fine us vs ws w = sym (nodes-alike us vs ws us vs ws refl (sym w) refl (⊎_elim (λ h. absurd (never h)) (λ h. h) (or_lt (first (unlike us vs ws us vs ws) 0 (length us)) (length us))))
   where
     alike : (k : ℕ) → unlike us vs ws us vs ws k ≡ false
@@ -146,7 +142,7 @@ nodes_fine us vs ws w = sym (nodes-alike us vs ws us vs ws refl (sym w) refl (�
 
 fair-places : (us vs : List ℤ) → length us ≤ 1023 → Fair 4 (places us vs)
 fair-places us vs h =
-    let l = length-places us vs in
+    let l = length_places us vs in
     record { long = simp (eq-eqb (length (places us vs) % 8) 0 (omega arith)); small = omega arith; version = λ rest. refl }
 
 fair-wires : (ws : List ℕ) → length ws ≤ 1023 → Fair 5 (numbers 4 ws)
@@ -155,12 +151,12 @@ fair-wires ws h =
     record { long = simp (eq-eqb (length (numbers 4 ws) % 4) 0 (omega arith)); small = omega arith; version = λ rest. refl }
 
 pub record TreeBack (xs ys : List ℤ) (js : List ℕ) : Type 0 where
-  pub checked : check_tree_file (tree_file xs ys js) ≡ Fine
+  pub checked : check_tree_file (tree_file xs ys js) ≡ Ok tt
   pub same_x : xs_in (tree_file xs ys js) ≡ xs
   pub same_y : ys_in (tree_file xs ys js) ≡ ys
   pub same_j : joins_in (tree_file xs ys js) ≡ js
 
-pub tree_back : (xs ys : List ℤ) (js : List ℕ) → check_order xs ys (prompt xs) js ≡ Fine → TreeBack xs ys js
+pub tree_back : (xs ys : List ℤ) (js : List ℕ) → check_order xs ys (prompt xs) js ≡ Ok tt → TreeBack xs ys js
 unfolding tree_file check_tree_file check_tags past
 tree_back xs ys js q =
     let s = order-sound xs ys (prompt xs) js q in

@@ -1,12 +1,9 @@
 -- Document 01, "House files": the tree file as bytes, and number 9 for one that is read.
-use Rattle.std.specs.Prelude.{Bool, not, ◌&&◌, List, [], ◌∷◌, ℕ, eqb, ltb, ℤ, pos, length, get_or}
+use Rattle.std.specs.Prelude.{Bool, not, ◌&&◌, List, [], ◌∷◌, ℕ, eqb, ltb, ℤ, pos, length, get_or, Ok, None, Some}
 use Rattle.lists.specs.First.{first}
 use Rattle.measures.specs.Range.{equal}
-use Rattle.plane.specs.Refusals.{refusal, refuse_if, and_then}
+use Rattle.plane.specs.Refusals.{Checked, refusal, refuse_if, and_then}
 use Rattle.plane.specs.Sinks.{sinks_at, prompt}
-use Rattle.plane.specs.declared.refusal.Place.TheVariants.{None, At}
-use Rattle.plane.specs.declared.refusal.Checked.{Checked}
-use Rattle.plane.specs.declared.refusal.Checked.TheVariants.{Fine}
 use Rattle.orders.specs.Nodes.{places_u, places_v, wires}
 use Rattle.orders.specs.Joins.{check_order}
 use Rattle.fields.specs.Fields.{firsts, seconds, numbers_in}
@@ -29,8 +26,8 @@ unlike us vs ws fu fv fw k =
 unfoldable pub check_nodes : List ℤ → List ℤ → List ℕ → List ℤ → List ℤ → List ℕ → Checked
 check_nodes us vs ws fu fv fw =
     refuse_if (not (eqb (length fu) (length us) && eqb (length fw) (length us))) (refusal 9 None)
-    (refuse_if (ltb (first (unlike us vs ws fu fv fw) 0 (length us)) (length us)) (refusal 9 (At (first (unlike us vs ws fu fv fw) 0 (length us))))
-    Fine)
+    (refuse_if (ltb (first (unlike us vs ws fu fv fw) 0 (length us)) (length us)) (refusal 9 (Some (first (unlike us vs ws fu fv fw) 0 (length us))))
+    (Ok tt))
 
 unfoldable pub check_tags : List ℤ → List ℤ → List ℕ → List ℕ → List ℕ → Checked
 check_tags xs ys js v4 v5 =

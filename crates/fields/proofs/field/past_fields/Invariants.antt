@@ -1,10 +1,6 @@
 use mathlib.Core.Path.{◌≡◌}
-use Prim.Native.Nat.{◌≤◌, ◌-◌}
 use Rattle.fields.specs.Form.{past}
 use Rattle.fields.proofs.field.past_fields.Given as goal
 
-abbrev pub invariant-loop-t : goal.invariant-loop-t
-invariant-loop-t l = (l.t ≤ l.k) × (l.at ≡ past l.file l.t)
-
-abbrev pub decreases-loop-t : goal.decreases-loop-t
-decreases-loop-t l = l.k - l.t
+abbrev pub invariant-loop : goal.invariant-loop
+invariant-loop l = l.at ≡ past l.file l.counter

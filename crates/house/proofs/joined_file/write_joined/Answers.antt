@@ -1,34 +1,34 @@
-use mathlib.Core.Path.{sym, ◌∙◌}
+use mathlib.Core.Path.{◌≡◌, sym, ◌∙◌}
 use native.Mathlib.Omega.{arith}
+use Rattle.std.proofs.Common.{rules}
+use Rattle.std.specs.Prelude.{Err}
 use Rattle.orders.proofs.Bounded.{order-sound}
-use Rattle.house.proofs.Answers.{not_written, no_room, did_write}
+use Rattle.house.proofs.Answers.{roomy, no_room, did_write}
 use Rattle.house.proofs.Lengths.{length-joined_file}
 use Rattle.house.proofs.joined_file.write_joined.Goals as goal
 
-pub returns-in-Refused : goal.returns-in-Refused
-returns-in-Refused c =
-    not_written (sym c.check_prompt-said.ensures ∙ c.in-Refused.is)
-
 pub overflow_mul-xs : goal.overflow_mul-xs
-overflow_mul-xs c = omega (arith, (order-sound _ _ _ _ (sym c.check_prompt-said.ensures ∙ c.in_default.is)).joins.few)
+overflow_mul-xs c = omega (arith, (order-sound _ _ _ _ (sym c.check_prompt.ensures ∙ c.in_ok-check_prompt.was)).joins.few)
 
 pub overflow_add-xs : goal.overflow_add-xs
-overflow_add-xs c = omega (arith, (order-sound _ _ _ _ (sym c.check_prompt-said.ensures ∙ c.in_default.is)).joins.few)
+overflow_add-xs c = omega (arith, (order-sound _ _ _ _ (sym c.check_prompt.ensures ∙ c.in_ok-check_prompt.was)).joins.few)
 
-pub returns-then-out-xs : goal.returns-then-out-xs
-returns-then-out-xs c = no_room (sym c.check_prompt-said.ensures ∙ c.in_default.is) (omega (
-  arith,
-  (let s = (order-sound _ _ _ _ (sym c.check_prompt-said.ensures ∙ c.in_default.is)).joins in
-      length-joined_file c.args.xs.now c.args.ys.now c.args.js.now s.valid s.some),
-))
+pub returns-in_err-room : goal.returns-in_err-room
+returns-in_err-room c =
+    let a = c.args in
+    let e = sym c.check_prompt.ensures ∙ c.in_ok-check_prompt.was in
+    let s = (order-sound _ _ _ _ e).joins in
+    let l = length-joined_file a.xs.now a.ys.now a.js.now s.valid s.some in
+    let r : c.from_residual-in_err-room.result ≡ Err c.in_err-room.field-0.0 = search rules in
+    rw r (no_room e (rw l (sym c.room.ensures ∙ c.in_err-room.was)))
 
 pub put_joined-requires : goal.put_joined-requires
-put_joined-requires c = (order-sound _ _ _ _ (sym c.check_prompt-said.ensures ∙ c.in_default.is), omega arith)
+put_joined-requires c =
+    (order-sound _ _ _ _ (sym c.check_prompt.ensures ∙ c.in_ok-check_prompt.was), roomy _ _ (sym c.room.ensures ∙ c.in_ok-room.was))
 
 pub returns : goal.returns
 returns c =
-    did_write (sym c.check_prompt-said.ensures ∙ c.in_default.is) (omega (
-      arith,
-      (let s = (order-sound _ _ _ _ (sym c.check_prompt-said.ensures ∙ c.in_default.is)).joins in
-          length-joined_file c.args.xs.now c.args.ys.now c.args.js.now s.valid s.some),
-    )) c.put_joined.ensures
+    let a = c.args in
+    let e = sym c.check_prompt.ensures ∙ c.in_ok-check_prompt.was in
+    let s = (order-sound _ _ _ _ e).joins in
+    did_write e (rw (length-joined_file a.xs.now a.ys.now a.js.now s.valid s.some) (sym c.room.ensures ∙ c.in_ok-room.was)) c.put_joined.ensures

@@ -1,21 +1,26 @@
-use mathlib.Core.Path.{sym}
-use native.Mathlib.Omega.{arith}
-use Rattle.house.proofs.Answers.{sinks_in, no_room_x, no_room_y, sinks_read}
+use mathlib.Core.Path.{◌≡◌, sym, ap, ◌∙◌}
+use lib.ListN.{length}
+use Rattle.std.proofs.Common.{rules}
+use Rattle.std.specs.Prelude.{Err}
+use Rattle.fields.specs.Fields.{firsts}
+use Rattle.house.specs.Reading.{xs_in}
+use Rattle.house.proofs.Answers.{no_room_x, sinks_read}
 use Rattle.house.proofs.sink_file.take_sinks.Goals as goal
 
-pub returns-then-xs-n : goal.returns-then-xs-n
-returns-then-xs-n c =
-    let n = sinks_in _ c.value-v.ensures in
-    no_room_x (omega (arith, n))
-
-pub returns-then-ys-n : goal.returns-then-ys-n
-returns-then-ys-n c =
-    let n = sinks_in _ c.value-v.ensures in
-    no_room_y (omega (arith, n)) (omega (arith, n))
+pub returns-in_err-room : goal.returns-in_err-room
+returns-in_err-room c =
+    let n : c.count_places-n.result ≡ length (xs_in c.args.file.now) = c.count_places-n.ensures ∙ ap (λ v. length (firsts v)) c.value-v.ensures in
+    let r : c.from_residual.result ≡ Err c.in_err-room.field-0.0 = search rules in
+    rw r (no_room_x (rw (sym n) (sym c.room.ensures ∙ c.in_err-room.was)))
 
 pub returns : goal.returns
 returns c =
     let v = c.value-v.ensures in
     let g = c.get_places.ensures in
-    let n = sinks_in _ v in
-    sinks_read (omega (arith, n)) (omega (arith, n)) (sym n) (rw v at g.xs_after) (rw v at g.ys_after)
+    let n : c.count_places-n.result ≡ length (xs_in c.args.file.now) = c.count_places-n.ensures ∙ ap (λ v. length (firsts v)) v in
+    sinks_read
+    (rw (sym n) (sym c.room.ensures ∙ c.in_ok-room.was))
+    (rw (sym n) (sym c.room-2.ensures ∙ c.in_ok-room-2.was))
+    n
+    (rw v at g.xs_after)
+    (rw v at g.ys_after)

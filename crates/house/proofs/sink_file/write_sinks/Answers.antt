@@ -1,31 +1,33 @@
 use mathlib.Core.Path.{◌≡◌, sym, ◌∙◌}
 use native.Mathlib.Omega.{arith}
-use Rattle.plane.specs.Sinks.{prompt, check_sinks}
-use Rattle.plane.specs.declared.refusal.Checked.TheVariants.{Fine}
+use Rattle.std.proofs.Common.{rules}
+use Rattle.std.specs.Prelude.{Err}
+use Rattle.plane.specs.Sinks.{prompt}
 use Rattle.plane.proofs.Checks.{accepted, check_prompt}
-use Rattle.house.proofs.Answers.{not_written, no_room, did_write}
+use Rattle.house.proofs.Answers.{roomy, no_room, did_write}
 use Rattle.house.proofs.Lengths.{length-sink_file}
 use Rattle.house.proofs.sink_file.write_sinks.Goals as goal
 
-pub returns-in-Refused : goal.returns-in-Refused
-returns-in-Refused c =
-    let a = c.args in
-    not_written (check_prompt 512 a.xs.now a.ys.now ∙ sym c.check_places-said.ensures ∙ c.in-Refused.is)
+pub returns-in_err-check_places : goal.returns-in_err-check_places
+returns-in_err-check_places c =
+    let e = check_prompt 512 c.args.xs.now c.args.ys.now in
+    search rules
 
-pub returns-then-out-xs : goal.returns-then-out-xs
-returns-then-out-xs c =
+pub returns-in_err-room : goal.returns-in_err-room
+returns-in_err-room c =
     let a = c.args in
     let l = length-sink_file a.xs.now a.ys.now in
-    no_room ((let sinks_fine : check_sinks 512 c.args.xs.now c.args.ys.now (prompt c.args.xs.now) ≡ Fine = check_prompt 512 _ _ ∙ sym c.check_places-said.ensures ∙ c.in_default.is in sinks_fine)) (omega (arith, l))
+    let r : c.from_residual-in_err-room.result ≡ Err c.in_err-room.field-0.0 = search rules in
+    rw r (no_room (check_prompt 512 _ _ ∙ sym c.check_places.ensures ∙ c.in_ok-check_places.was) (rw l (sym c.room.ensures ∙ c.in_err-room.was)))
 
 pub put_sinks-requires : goal.put_sinks-requires
 put_sinks-requires c =
     let a = c.args in
-    let m = accepted 512 a.xs.now a.ys.now (prompt a.xs.now) ((let sinks_fine : check_sinks 512 c.args.xs.now c.args.ys.now (prompt c.args.xs.now) ≡ Fine = check_prompt 512 _ _ ∙ sym c.check_places-said.ensures ∙ c.in_default.is in sinks_fine)) in
+    let m = accepted 512 a.xs.now a.ys.now (prompt a.xs.now) (check_prompt 512 _ _ ∙ sym c.check_places.ensures ∙ c.in_ok-check_places.was) in
+    let r = roomy _ _ (sym c.room.ensures ∙ c.in_ok-room.was) in
     (omega arith, m.ranged.alike, m.few)
 
 pub returns : goal.returns
 returns c =
     let a = c.args in
-    let l = length-sink_file a.xs.now a.ys.now in
-    did_write ((let sinks_fine : check_sinks 512 c.args.xs.now c.args.ys.now (prompt c.args.xs.now) ≡ Fine = check_prompt 512 _ _ ∙ sym c.check_places-said.ensures ∙ c.in_default.is in sinks_fine)) (omega (arith, l)) c.put_sinks.ensures
+    did_write (check_prompt 512 _ _ ∙ sym c.check_places.ensures ∙ c.in_ok-check_places.was) (rw (length-sink_file a.xs.now a.ys.now) (sym c.room.ensures ∙ c.in_ok-room.was)) c.put_sinks.ensures

@@ -1,33 +1,51 @@
-use mathlib.Core.Path.{sym, ◌∙◌}
-use Rattle.fields.proofs.Values.{first_in, second_in, number_of}
+use mathlib.Core.Path.{◌≡◌, sym, ap, ◌∙◌}
+use native.Mathlib.Omega.{arith}
+use lib.IntN.{pos}
+use lib.ListN.{get_or}
+use Rattle.std.proofs.Common.{rules, of_z, w32}
+use Rattle.fields.proofs.Values.{length_firsts, length_numbers_in, first_in, second_in, number_of}
+use Rattle.tree_files.proofs.TreeAnswers.{equal_self, equal_not}
 use Rattle.tree_files.proofs.tree_file.is_unlike.Goals as goal
 
-pub returns-then-not-same_at : goal.returns-then-not-same_at
-returns-then-not-same_at c =
-    let a = c.args in
-    let p = c.requires in
-    rw (first_in a.v4.now a.k p.3, sym c.same_at.ensures ∙ c.if-not-same_at.true)
+pub read-requires : goal.read-requires
+read-requires c = let n = length_firsts c.args.v4.now in omega arith
 
-pub returns-then-not-same_at-2 : goal.returns-then-not-same_at-2
-returns-then-not-same_at-2 c =
+pub returns-then-read-us : goal.returns-then-read-us
+returns-then-read-us c =
     let a = c.args in
-    let p = c.requires in
+    let n = length_firsts a.v4.now in
+    rw (first_in a.v4.now a.k (omega arith) ∙ sym c.read.ensures, equal_not _ _ (λ q. c.if-read-us.true (ap (of_z w32) q)))
+
+pub read-requires-2 : goal.read-requires-2
+read-requires-2 c = let n = length_firsts c.args.v4.now in omega arith
+
+pub returns-then-read-vs : goal.returns-then-read-vs
+returns-then-read-vs c =
+    let a = c.args in
+    let n = length_firsts a.v4.now in
+    let e : c.read.result ≡ get_or a.us.now a.k (pos 0) = search rules in
     rw (
-      first_in a.v4.now a.k p.3,
-      second_in a.v4.now a.k p.3,
-      sym c.same_at.ensures ∙ c.if-not-same_at.false,
-      sym c.same_at-2.ensures ∙ c.if-not-same_at-2.true,
+      first_in a.v4.now a.k (omega arith) ∙ sym c.read.ensures ∙ e,
+      equal_self (get_or a.us.now a.k (pos 0)),
+      second_in a.v4.now a.k (omega arith) ∙ sym c.read-2.ensures,
+      equal_not _ _ (λ q. c.if-read-vs.true (ap (of_z w32) q)),
     )
+
+pub read-requires-3 : goal.read-requires-3
+read-requires-3 c = let n = length_numbers_in 4 c.args.v5.now in omega arith
 
 pub returns : goal.returns
 returns c =
     let a = c.args in
-    let p = c.requires in
+    let n = length_firsts a.v4.now in
+    let m = length_numbers_in 4 a.v5.now in
+    let e : c.read.result ≡ get_or a.us.now a.k (pos 0) = search rules in
+    let f : c.read-2.result ≡ get_or a.vs.now a.k (pos 0) = search rules in
     rw (
-      first_in a.v4.now a.k p.3,
-      second_in a.v4.now a.k p.3,
-      number_of 4 a.v5.now a.k p.4,
-      sym c.same_at.ensures ∙ c.if-not-same_at.false,
-      sym c.same_at-2.ensures ∙ c.if-not-same_at-2.false,
-      c.read4.ensures,
+      first_in a.v4.now a.k (omega arith) ∙ sym c.read.ensures ∙ e,
+      equal_self (get_or a.us.now a.k (pos 0)),
+      second_in a.v4.now a.k (omega arith) ∙ sym c.read-2.ensures ∙ f,
+      equal_self (get_or a.vs.now a.k (pos 0)),
+      number_of 4 a.v5.now a.k (omega arith),
+      c.read-3.ensures,
     )

@@ -5,7 +5,7 @@ use lib.IntN.{pos}
 use lib.ListN.{length, replicate}
 use Rattle.plane.specs.Sinks.{sinks_at, prompt}
 use Rattle.orders.specs.Nodes.{places_u, places_v, wires}
-use Rattle.lists.proofs.Front.{front_lent}
+use Rattle.lists.proofs.Front.{front_part}
 use Rattle.tree_files.proofs.TreeAnswers.{length_u, length_v, length-wires}
 use Rattle.tree_files.proofs.TreeLengths.{tree_is}
 use Rattle.house.proofs.Lengths.{length-joined_file}
@@ -21,9 +21,9 @@ put_tags-requires c =
     let s = sinks_at xs ys (prompt xs) in
     let m = 2 * length xs - 1 in
     let e = c.embed_prompt.ensures in
-    let p = front_lent (places_u s js) (replicate 1023 (pos 0)) m e.writes_u (length_u xs ys js) in
-    let q = front_lent (places_v s js) (replicate 1023 (pos 0)) m e.writes_v (length_v xs ys js) in
-    let r = front_lent (wires s js) (replicate 1023 0) m e.writes_w (length-wires xs ys js) in
+    let p = front_part (places_u s js) (replicate 1023 (pos 0)) m e.writes_u (length_u xs ys js) in
+    let q = front_part (places_v s js) (replicate 1023 (pos 0)) m e.writes_v (length_v xs ys js) in
+    let r = front_part (wires s js) (replicate 1023 0) m e.writes_w (length-wires xs ys js) in
     let u = length_u xs ys js in
     let j = c.requires.0.joins in
     let l = c.put_joined-at.ensures in
@@ -43,7 +43,7 @@ returns c =
     let s = sinks_at xs ys (prompt xs) in
     let m = 2 * length xs - 1 in
     let e = c.embed_prompt.ensures in
-    let p = front_lent (places_u s js) (replicate 1023 (pos 0)) m e.writes_u (length_u xs ys js) in
-    let q = front_lent (places_v s js) (replicate 1023 (pos 0)) m e.writes_v (length_v xs ys js) in
-    let r = front_lent (wires s js) (replicate 1023 0) m e.writes_w (length-wires xs ys js) in
+    let p = front_part (places_u s js) (replicate 1023 (pos 0)) m e.writes_u (length_u xs ys js) in
+    let q = front_part (places_v s js) (replicate 1023 (pos 0)) m e.writes_v (length_v xs ys js) in
+    let r = front_part (wires s js) (replicate 1023 0) m e.writes_w (length-wires xs ys js) in
     rw (tree_is xs ys js) (put_more c.put_joined-at.ensures (rw (p, q, r) at c.put_tags.ensures))

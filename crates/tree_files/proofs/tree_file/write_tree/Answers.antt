@@ -1,31 +1,31 @@
-use mathlib.Core.Path.{sym, ◌∙◌}
+use mathlib.Core.Path.{◌≡◌, sym, ◌∙◌}
 use native.Mathlib.Omega.{arith}
+use Rattle.std.proofs.Common.{rules}
+use Rattle.std.specs.Prelude.{Err}
 use Rattle.orders.proofs.Bounded.{order-sound}
-use Rattle.house.proofs.Answers.{not_written, no_room, did_write}
+use Rattle.house.proofs.Answers.{roomy, no_room, did_write}
 use Rattle.tree_files.proofs.TreeLengths.{length-tree_file}
 use Rattle.tree_files.proofs.tree_file.write_tree.Goals as goal
 
-pub returns-in-Refused : goal.returns-in-Refused
-returns-in-Refused c =
-    not_written (sym c.check_prompt-said.ensures ∙ c.in-Refused.is)
-
 pub overflow_mul-xs : goal.overflow_mul-xs
-overflow_mul-xs c = omega (arith, (order-sound _ _ _ _ (sym c.check_prompt-said.ensures ∙ c.in_default.is)).joins.few)
+overflow_mul-xs c = omega (arith, (order-sound _ _ _ _ (sym c.check_prompt.ensures ∙ c.in_ok-check_prompt.was)).joins.few)
 
-pub returns-then-out-xs : goal.returns-then-out-xs
-returns-then-out-xs c = no_room (sym c.check_prompt-said.ensures ∙ c.in_default.is) (omega (
-  arith,
-  (let s = (order-sound _ _ _ _ (sym c.check_prompt-said.ensures ∙ c.in_default.is)).joins in
-      length-tree_file c.args.xs.now c.args.ys.now c.args.js.now s.valid s.some),
-))
+pub returns-in_err-room : goal.returns-in_err-room
+returns-in_err-room c =
+    let a = c.args in
+    let e = sym c.check_prompt.ensures ∙ c.in_ok-check_prompt.was in
+    let s = (order-sound _ _ _ _ e).joins in
+    let l = length-tree_file a.xs.now a.ys.now a.js.now s.valid s.some in
+    let r : c.from_residual-in_err-room.result ≡ Err c.in_err-room.field-0.0 = search rules in
+    rw r (no_room e (rw l (sym c.room.ensures ∙ c.in_err-room.was)))
 
 pub put_tree-requires : goal.put_tree-requires
-put_tree-requires c = (order-sound _ _ _ _ (sym c.check_prompt-said.ensures ∙ c.in_default.is), omega arith)
+put_tree-requires c =
+    (order-sound _ _ _ _ (sym c.check_prompt.ensures ∙ c.in_ok-check_prompt.was), roomy _ _ (sym c.room.ensures ∙ c.in_ok-room.was))
 
 pub returns : goal.returns
 returns c =
-    did_write (sym c.check_prompt-said.ensures ∙ c.in_default.is) (omega (
-      arith,
-      (let s = (order-sound _ _ _ _ (sym c.check_prompt-said.ensures ∙ c.in_default.is)).joins in
-          length-tree_file c.args.xs.now c.args.ys.now c.args.js.now s.valid s.some),
-    )) c.put_tree.ensures
+    let a = c.args in
+    let e = sym c.check_prompt.ensures ∙ c.in_ok-check_prompt.was in
+    let s = (order-sound _ _ _ _ e).joins in
+    did_write e (rw (length-tree_file a.xs.now a.ys.now a.js.now s.valid s.some) (sym c.room.ensures ∙ c.in_ok-room.was)) c.put_tree.ensures
