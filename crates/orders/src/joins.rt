@@ -16,13 +16,7 @@ fn entry(js: &[u16], p: usize) -> usize
 fn is_unlike(a: usize, b: usize, top: usize) -> bool
     ensures { result ≡ (eqb a b || (leb top a || leb top b)) }
 {
-    if a == b {
-        return true;
-    }
-    if top <= a {
-        return true;
-    }
-    top <= b
+    a == b || top <= a || top <= b
 }
 
 // The first bad pair, by a flag for each node that was named.

@@ -12,7 +12,7 @@ use plane::sinks::Sinks;
 
 // What is kept of N nodes, by their number: the box of the sinks below, its diameter, and the parent.
 // One array for each part: in an array of structs, embedding takes a tenth longer.
-#[derive(Clone, Copy)]
+#[derive(Drop)]
 pub struct Nodes<const N: usize> {
     pub hulls: [Box; N],
     pub diameters: [u32; N],
