@@ -5,6 +5,7 @@ ghost use Rattle.subsets.specs.Subsets.{rising};
 ghost use Rattle.lanes.specs.Blocks.{to_first, to_second, least_with, parts_to, split_off_lane, Modest, Within, Meets, Summed, Lays, Deals};
 
 use subsets::subset;
+use subsets::subset::Parts;
 
 // One turn: in each lane, the row at a for the first part and the row at b for the second.
 fn meet(rows: &[u32], a: usize, b: usize, sums: &mut [u32; 28])
@@ -22,16 +23,13 @@ pub fn lane_sums(rows: &[u32], h: u32, sums: &mut [u32; 28])
     requires { (0 < h) × (56 * h ≤ length rows.now) × Modest rows.now }
     ensures { Summed rows.now h sums.old sums.new }
 {
-    let rest = subset::beyond(h);
-    let mut other = rest;
-    while other != 0 {
+    for other in Parts::of(subset::beyond(h)) {
         meet(
             rows,
             56 * (h - other) as usize,
             56 * other as usize + 28,
             sums,
         );
-        other = (other - 1) & rest;
     }
 }
 
@@ -53,11 +51,9 @@ pub fn least_low(table: &[u32], s: u32, low: u32, v: u32) -> u32
     ensures { result ≡ least_with (split_off_lane table.now s) v (parts_to low low) }
 {
     let mut least = v;
-    let mut part = low;
-    while part != 0 {
+    for part in Parts::of(low) {
         let met = table[(s - part) as usize] + table[part as usize];
         least = least.min(met);
-        part = (part - 1) & low;
     }
     least
 }

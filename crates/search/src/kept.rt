@@ -7,6 +7,7 @@ ghost use Rattle.subsets.specs.Square.{held};
 ghost use Rattle.subsets.specs.Kept.{kept_part, kept_order, pairs_of, node_of};
 
 use splits::fill;
+use subsets::subset::Parts;
 use subsets::{square, subset};
 
 // The part with the lowest sink, in the split of s that is kept.
@@ -17,12 +18,10 @@ fn kept(ds: &[u32; 4096], table: &[u32], s: u32) -> u32
     let d = square::diameter(ds, s);
     let rest = subset::beyond(s);
     let goal = u64::from(table[s as usize]);
-    let mut other = rest;
-    while other != 0 {
+    for other in Parts::of(rest) {
         if fill::cost(table, d, s, other) == goal {
             return s - other;
         }
-        other = (other - 1) & rest;
     }
     s - rest
 }

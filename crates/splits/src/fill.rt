@@ -10,6 +10,7 @@ ghost use Rattle.lanes.specs.Blocks.{Short};
 ghost use Rattle.lanes.specs.Sums.{Leading, apart, sums, three_of};
 
 use lanes::blocks;
+use subsets::subset::Parts;
 use subsets::{square, subset};
 
 // What the two parts of a split of s come to: `other`, and the part that holds the lowest sink.
@@ -44,12 +45,10 @@ fn least_of_fours(table: &[u32], s: u32, second: u32, third: u32, last: u32) -> 
     requires { (0 < s) × Leading s second third last × (s < length table.now) }
     ensures { (result < 2 ^ 33) × (result ≡ least_of (sums table.now s) (splits s)) }
 {
-    let mut other = last;
     let mut least = three(table, s, 0, second, third);
-    while other != 0 {
+    for other in Parts::of(last) {
         let with = three(table, s, other, second, third);
         least = least.min(with.min(parts(table, s, other)));
-        other = (other - 1) & last;
     }
     least
 }
@@ -93,17 +92,14 @@ fn examine_some(table: &[u32], d: u32, s: u32, budget: u64) -> Examined
     requires { (0 < s) × (s < 2 ^ 12) × (s < length table.now) }
     ensures { (result.left ≡ budget - length (splits s)) × (result.least ≡ foldl (better_at d table.now s) (get_or table.now s 0) (take budget (splits s))) }
 {
-    let rest = subset::beyond(s);
-    let mut other = rest;
     let mut left = budget;
     let mut best = table[s as usize];
-    while other != 0 {
+    for other in Parts::of(subset::beyond(s)) {
         if left == 0 {
             break;
         }
         let sum = cost(table, d, s, other);
         best = sum.min(u64::from(best)) as u32;
-        other = (other - 1) & rest;
         left -= 1;
     }
     Examined { least: best, left }

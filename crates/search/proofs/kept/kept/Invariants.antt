@@ -6,7 +6,4 @@ use Rattle.subsets.proofs.KeptParts.{found}
 use Rattle.search.proofs.kept.kept.Given as goal
 
 abbrev pub invariant-loop-other : goal.invariant-loop-other
-invariant-loop-other l = Sub l.other (l.s - 2 ^ lowest l.s) × (found l.d l.table l.s l.goal l.other ≡ found l.d l.table l.s l.goal l.rest)
-
-abbrev pub decreases-loop-other : goal.decreases-loop-other
-decreases-loop-other l = l.other
+invariant-loop-other l = let o = l.other-iterator in (o.whole ≡ l.s - 2 ^ lowest l.s) × Sub o.next (l.s - 2 ^ lowest l.s) × (found l.d l.table l.s l.goal o.next ≡ found l.d l.table l.s l.goal l.rest)

@@ -4,4 +4,3 @@ use Rattle.splits.proofs.fill.fill_all.Given as goal
 
 abbrev pub invariant-loop-s : goal.invariant-loop-s
 invariant-loop-s l = Filling-all (held l.ds) l.n l.initial.table l.s l.table
-
