@@ -3,6 +3,7 @@ ghost use Rattle.std.specs.Prelude.{◌-◌, ◌*◌, ◌≤◌};
 ghost use Rattle.plane.specs.Said.{told};
 ghost use Rattle.plane.specs.Sinks.{prompt, count};
 ghost use Rattle.embedding.specs.Ready.{Ready, Embeds, ReadyIn, EmbedsIn};
+ghost use Rattle.embedding.specs.Layouts.{SameLists};
 ghost use Rattle.embedding.specs.Permitted.{PermittedIn};
 
 use crate::layout::Layout;
@@ -16,7 +17,8 @@ use plane::sinks::Sinks;
 // The same as `embed_sound`, with room for N nodes.
 fn embed_with<const N: usize>(sinks: &Sinks<'_>, js: &[u16], layout: &mut Layout<'_>) -> u32
     requires { ReadyIn sinks.now js.now layout.old × (2 * count sinks.now - 1 ≤ N) × (N ≤ 1023) }
-    ensures { EmbedsIn sinks.now js.now layout.old result layout.new }
+    ensures same { SameLists layout.old layout.new }
+    ensures embeds { EmbedsIn sinks.now js.now layout.old result layout.new }
 {
     let mut nodes = Nodes::<N> {
         hulls: [boxes::BLANK; N],
@@ -34,7 +36,8 @@ fn embed_with<const N: usize>(sinks: &Sinks<'_>, js: &[u16], layout: &mut Layout
 // The places and the wires of all nodes, and the total, where the sinks and the joins are sound and the layout has room.
 pub fn embed_sound(sinks: &Sinks<'_>, js: &[u16], layout: &mut Layout<'_>) -> u32
     requires { ReadyIn sinks.now js.now layout.old }
-    ensures { EmbedsIn sinks.now js.now layout.old result layout.new }
+    ensures same { SameLists layout.old layout.new }
+    ensures embeds { EmbedsIn sinks.now js.now layout.old result layout.new }
 {
     // To clear room for the nodes of 512 sinks would take longer than to embed 12.
     if sinks.xs.len() <= 12 {
@@ -46,7 +49,8 @@ pub fn embed_sound(sinks: &Sinks<'_>, js: &[u16], layout: &mut Layout<'_>) -> u3
 // The same of sinks that have no delay.
 pub fn embed_prompt(xs: &[i32], ys: &[i32], js: &[u16], layout: &mut Layout<'_>) -> u32
     requires { Ready xs.now ys.now (prompt xs.now) js.now layout.old.us.now layout.old.vs.now layout.old.ws.now }
-    ensures { Embeds xs.now ys.now (prompt xs.now) js.now layout.old.us.now layout.old.vs.now layout.old.ws.now result layout.new.us.now layout.new.vs.now layout.new.ws.now }
+    ensures same { SameLists layout.old layout.new }
+    ensures embeds { Embeds xs.now ys.now (prompt xs.now) js.now layout.old.us.now layout.old.vs.now layout.old.ws.now result layout.new.us.now layout.new.vs.now layout.new.ws.now }
 {
     let none = [0u32; 512];
     let delays = &none[..xs.len()];
@@ -56,7 +60,8 @@ pub fn embed_prompt(xs: &[i32], ys: &[i32], js: &[u16], layout: &mut Layout<'_>)
 // Refusals 1 to 4, 15, 6 and 7 in order, else the total, with the places and the wires in the layout.
 #[tactic(auto, unfolding(crate::specs::Embedding::answer))]
 pub fn embed(sinks: &Sinks<'_>, js: &[u16], layout: &mut Layout<'_>) -> Result<u32, Refusal>
-    ensures { PermittedIn sinks.now js.now layout.old (told result) layout.new }
+    ensures same { SameLists layout.old layout.new }
+    ensures permitted { PermittedIn sinks.now js.now layout.old (told result) layout.new }
 {
     check::check_order(sinks, js)?;
     layout.check_room(2 * sinks.xs.len() - 1)?;

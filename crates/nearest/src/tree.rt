@@ -1,5 +1,6 @@
 // The tree of joining by least diameter: the joining order and its embedding.
 ghost use Rattle.plane.specs.Said.{told};
+ghost use Rattle.embedding.specs.Layouts.{SameLists};
 ghost use Rattle.nearest.specs.Calls.{EmbeddingIn};
 ghost use Rattle.nearest.specs.Ready.{CanBuildIn, TreesIn};
 
@@ -12,7 +13,8 @@ use plane::sinks::Sinks;
 // The joins, the places and the wires, and the total, where the sinks were checked and the buffers have room.
 fn tree_sound(sinks: &Sinks<'_>, js: &mut [u16], layout: &mut Layout<'_>) -> u32
     requires { CanBuildIn sinks.now js.old layout.old }
-    ensures { TreesIn sinks.now js.old layout.old result js.new layout.new }
+    ensures same { SameLists layout.old layout.new }
+    ensures builds { TreesIn sinks.now js.old layout.old result js.new layout.new }
 {
     order::order_sound(sinks, js);
     embed::embed_sound(sinks, &js[..2 * (sinks.xs.len() - 1)], layout)
@@ -25,7 +27,8 @@ pub fn embed_nearest(
     js: &mut [u16],
     layout: &mut Layout<'_>,
 ) -> Result<u32, Refusal>
-    ensures { EmbeddingIn sinks.now js.old layout.old (told result) js.new layout.new }
+    ensures same { SameLists layout.old layout.new }
+    ensures permitted { EmbeddingIn sinks.now js.old layout.old (told result) js.new layout.new }
 {
     order::check_nearest(sinks, js.len())?;
     layout.check_room(2 * sinks.xs.len() - 1)?;

@@ -3,6 +3,7 @@ ghost use Rattle.std.specs.Prelude.{◌≡◌, ◌<◌, ◌*◌, ◌-◌};
 ghost use Rattle.lists.specs.Grow.{front};
 ghost use Rattle.plane.specs.Said.{told};
 ghost use Rattle.plane.specs.Sinks.{sinks_in};
+ghost use Rattle.embedding.specs.Layouts.{SameLists};
 ghost use Rattle.search.specs.Prepared.{PreparedFor, ProvidedFor, Tabled, Joins, FindsIn};
 ghost use Rattle.search.specs.Searching.{joins_found, SearchesIn};
 
@@ -58,7 +59,8 @@ fn search_sound(
     layout: &mut Layout<'_>,
 ) -> Found
     requires { ProvidedFor sinks.now table.old js.old layout.old }
-    ensures { FindsIn sinks.now budget table.old js.old layout.old result table.new js.new layout.new }
+    ensures same { SameLists layout.old layout.new }
+    ensures finds { FindsIn sinks.now budget table.old js.old layout.old result table.new js.new layout.new }
 {
     let steps = search_joins(sinks, budget, table, js);
     let n = sinks.xs.len();
@@ -79,7 +81,8 @@ pub fn search(
     js: &mut [u16],
     layout: &mut Layout<'_>,
 ) -> Result<Found, Refusal>
-    ensures { SearchesIn sinks.now budget table.old js.old layout.old (told result) table.new js.new layout.new }
+    ensures same { SameLists layout.old layout.new }
+    ensures permitted { SearchesIn sinks.now budget table.old js.old layout.old (told result) table.new js.new layout.new }
 {
     rooms::check_search(sinks, table.len(), js.len(), layout)?;
     Ok(search_sound(sinks, budget, table, js, layout))

@@ -2,6 +2,7 @@
 #![tactic(auto)]
 
 pub use embedding::embed::embed;
+pub use embedding::layout::Layout;
 pub use house::joined_file::{read_joined, write_joined};
 pub use house::sink_file::{read_sinks, write_sinks};
 pub use measures::boxes::Box;
@@ -10,6 +11,7 @@ pub use nearest::tree::embed_nearest;
 pub use plane::bounds::{Extent, Widening, box_of, diameter, ends, widened};
 pub use plane::held::widen;
 pub use plane::refusal::{Refusal, number_of, place_of};
+pub use plane::sinks::Sinks;
 pub use printing::program::tree_lines;
 pub use search::search::{Found, search};
 pub use tree_files::tree_file::{read_tree, write_tree};

@@ -4,7 +4,7 @@ ghost use Rattle.zero_skew.specs.Box.{across};
 ghost use Rattle.skeprafter_c.specs.Kept.{held, ends_of, Boxes, Widens};
 
 use crate::said;
-use measures::boxes;
+use skeprafter::{Box, Sinks};
 
 #[unsafe(no_mangle)]
 pub extern "C" fn skeprafter_box_of(
@@ -16,9 +16,9 @@ pub extern "C" fn skeprafter_box_of(
 )
     ensures { Boxes x.now y.now delays.now kept.old kept.new said.new }
 {
-    match skeprafter::box_of(x, y, delays) {
+    match skeprafter::box_of(&Sinks { xs: x, ys: y, delays }) {
         Ok(b) => {
-            *kept = boxes::numbers(b);
+            *kept = b.into();
             *said = [0; 6];
         }
         Err(r) => {
@@ -37,9 +37,9 @@ pub extern "C" fn skeprafter_widen(
 )
     ensures { Widens kept.old x y delay kept.new said.new }
 {
-    let mut held = boxes::of_numbers(*kept);
+    let mut held = Box::from(*kept);
     let verdict = skeprafter::widen(&mut held, x, y, delay);
-    *kept = boxes::numbers(held);
+    *kept = held.into();
     *said = said::of_answer(verdict);
 }
 
@@ -47,7 +47,7 @@ pub extern "C" fn skeprafter_widen(
 pub extern "C" fn skeprafter_ends(kept: &[u32; 4], ends: &mut [i64; 4])
     ensures { ends.new ≡ ends_of (held kept.now) }
 {
-    let e = skeprafter::ends(boxes::of_numbers(*kept));
+    let e = skeprafter::ends(Box::from(*kept));
     *ends = [e.least_u, e.greatest_u, e.least_v, e.greatest_v];
 }
 
@@ -55,5 +55,5 @@ pub extern "C" fn skeprafter_ends(kept: &[u32; 4], ends: &mut [i64; 4])
 pub extern "C" fn skeprafter_diameter(kept: &[u32; 4]) -> u32
     ensures { result ≡ across (held kept.now) }
 {
-    skeprafter::diameter(boxes::of_numbers(*kept))
+    skeprafter::diameter(Box::from(*kept))
 }

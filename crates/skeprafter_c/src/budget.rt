@@ -2,6 +2,7 @@
 ghost use Rattle.skeprafter_c.specs.Searched.{Searched};
 
 use crate::said;
+use skeprafter::{Layout, Sinks};
 
 #[unsafe(no_mangle)]
 pub extern "C" fn skeprafter_search(
@@ -18,5 +19,7 @@ pub extern "C" fn skeprafter_search(
 )
     ensures { Searched x.now y.now delays.now budget table.old joins.old u.old v.old wires.old table.new joins.new u.new v.new wires.new said.new }
 {
-    *said = said::of_answer(skeprafter::search(x, y, delays, budget, table, joins, u, v, wires));
+    let sinks = Sinks { xs: x, ys: y, delays };
+    let mut layout = Layout { us: u, vs: v, ws: wires };
+    *said = said::of_answer(skeprafter::search(&sinks, budget, table, joins, &mut layout));
 }

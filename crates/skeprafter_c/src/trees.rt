@@ -2,6 +2,7 @@
 ghost use Rattle.skeprafter_c.specs.Trees.{Embeds, Joins, JoinsAndEmbeds};
 
 use crate::said;
+use skeprafter::{Layout, Sinks};
 
 #[unsafe(no_mangle)]
 pub extern "C" fn skeprafter_embed(
@@ -16,7 +17,9 @@ pub extern "C" fn skeprafter_embed(
 )
     ensures { Embeds x.now y.now delays.now joins.now u.old v.old wires.old u.new v.new wires.new said.new }
 {
-    *said = said::of_answer(skeprafter::embed(x, y, delays, joins, u, v, wires));
+    let sinks = Sinks { xs: x, ys: y, delays };
+    let mut layout = Layout { us: u, vs: v, ws: wires };
+    *said = said::of_answer(skeprafter::embed(&sinks, joins, &mut layout));
 }
 
 #[unsafe(no_mangle)]
@@ -29,7 +32,8 @@ pub extern "C" fn skeprafter_join_nearest(
 )
     ensures { Joins x.now y.now delays.now joins.old joins.new said.new }
 {
-    *said = said::of_answer(skeprafter::join_nearest(x, y, delays, joins));
+    let sinks = Sinks { xs: x, ys: y, delays };
+    *said = said::of_answer(skeprafter::join_nearest(&sinks, joins));
 }
 
 #[unsafe(no_mangle)]
@@ -45,5 +49,7 @@ pub extern "C" fn skeprafter_embed_nearest(
 )
     ensures { JoinsAndEmbeds x.now y.now delays.now joins.old u.old v.old wires.old joins.new u.new v.new wires.new said.new }
 {
-    *said = said::of_answer(skeprafter::embed_nearest(x, y, delays, joins, u, v, wires));
+    let sinks = Sinks { xs: x, ys: y, delays };
+    let mut layout = Layout { us: u, vs: v, ws: wires };
+    *said = said::of_answer(skeprafter::embed_nearest(&sinks, joins, &mut layout));
 }

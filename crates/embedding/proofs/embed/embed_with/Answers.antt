@@ -9,6 +9,6 @@ join_places-requires g c = (omega (arith, c.requires.2), (all_sized c.put_nodes-
 pub write_wires-requires : goal.write_wires-requires
 write_wires-requires g c = (omega (arith, c.requires.2), (climbs c.put_nodes-total.ensures.0, c.requires.0.room_w))
 
-pub returns : goal.returns
-returns g c =
+pub returns-clause-embeds : goal.returns-clause-embeds
+returns-clause-embeds g c =
     embeds c.requires.0 c.put_nodes-total.ensures.0 c.put_nodes-total.ensures.1 (c.sink_places.auto.us ∙ c.join_places.auto.us) (c.sink_places.auto.vs ∙ c.join_places.auto.vs) c.join_places.ensures c.sink_places.ensures c.write_wires.ensures

@@ -16,17 +16,17 @@ embed_sound-total-requires c =
       room_w = c.requires.room_w;
     }
 
-pub returns : goal.returns
-returns c =
+pub returns-clause-finds : goal.returns-clause-finds
+returns-clause-finds c =
     let j = c.search_joins-steps in
     let e = (let p = c.requires.prepared in
     found_part c.args.sinks.now.xs.now c.args.sinks.now.ys.now c.args.sinks.now.delays.now c.args.budget p.ranged p.some p.few c.args.js.now c.search_joins-steps.new.js c.search_joins-steps.ensures.writes_js) in
     let w = c.embed_sound-total in
     record {
-      finds = found_is c.args.sinks.now.xs.now c.args.sinks.now.ys.now c.args.sinks.now.delays.now c.args.budget (take (2 * (length c.args.sinks.now.xs.now - 1)) j.new.js) w.result j.result c.all_steps.result e w.ensures.sums j.ensures.counts c.all_steps.ensures;
+      finds = found_is c.args.sinks.now.xs.now c.args.sinks.now.ys.now c.args.sinks.now.delays.now c.args.budget (take (2 * (length c.args.sinks.now.xs.now - 1)) j.new.js) w.result j.result c.all_steps.result e w.ensures.embeds.sums j.ensures.counts c.all_steps.ensures;
       writes_table = j.ensures.writes_table;
       writes_js = j.ensures.writes_js;
-      writes_u = rw e at w.ensures.writes_u;
-      writes_v = rw e at w.ensures.writes_v;
-      writes_w = rw e at w.ensures.writes_w;
+      writes_u = rw e at w.ensures.embeds.writes_u;
+      writes_v = rw e at w.ensures.embeds.writes_v;
+      writes_w = rw e at w.ensures.embeds.writes_w;
     }

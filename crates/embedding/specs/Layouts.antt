@@ -1,0 +1,8 @@
+-- For the code alone: a layout that is written is lent in the same three lists.
+use Rattle.std.specs.Prelude.{◌≡◌}
+use Rattle.embedding.specs.declared.layout.Layout.{Layout}
+
+pub record SameLists (old new : Layout) : Type 0 where
+  pub same_u : new.us.ghost_name ≡ old.us.ghost_name
+  pub same_v : new.vs.ghost_name ≡ old.vs.ghost_name
+  pub same_w : new.ws.ghost_name ≡ old.ws.ghost_name
