@@ -9,7 +9,14 @@ use subsets::subset;
 
 // Refusal 7: room for the table, the pairs and all nodes of n sinks.
 #[tactic(auto, unfolding(crate::specs::Rooms::check_rooms))]
-fn check_rooms(n: usize, table: usize, js: usize, us: usize, vs: usize, ws: usize) -> Result<(), Refusal>
+fn check_rooms(
+    n: usize,
+    table: usize,
+    js: usize,
+    us: usize,
+    vs: usize,
+    ws: usize,
+) -> Result<(), Refusal>
     requires { (0 < n) × (n ≤ 12) }
     ensures { result ≡ check_rooms n table js us vs ws }
 {
