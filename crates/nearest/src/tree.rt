@@ -21,7 +21,7 @@ fn tree_sound(sinks: &Sinks<'_>, js: &mut [u16], layout: &mut Layout<'_>) -> u32
 }
 
 // Refusals 1 to 4, 15 and 7, else the total, with the joins, the places and the wires in the lent buffers.
-#[tactic(auto, unfolding(crate::specs::Calls::tree_answer))]
+#[tactic(auto, using(embedding::proofs::Rooms::has_room, crate::proofs::Passing::ready), unfolding(crate::specs::Calls::tree_answer))]
 pub fn embed_nearest(
     sinks: &Sinks<'_>,
     js: &mut [u16],

@@ -9,7 +9,7 @@ use plane::sinks;
 use plane::sinks::Sinks;
 
 // Refusals 1 to 4, 15 and 6: the sinks, then the joins.
-#[tactic(auto, unfolding(crate::specs::Joins::check_order))]
+#[tactic(auto, using(plane::proofs::Checks::accepted), unfolding(crate::specs::Joins::check_order))]
 pub fn check_order(sinks: &Sinks<'_>, js: &[u16]) -> Result<(), Refusal>
     ensures { result ≡ check_order sinks.now.xs.now sinks.now.ys.now sinks.now.delays.now js.now }
 {

@@ -8,6 +8,7 @@ use plane::sinks::Sinks;
 use subsets::subset;
 
 // Refusal 7: room for the table, the pairs and all nodes of n sinks.
+#[tactic(auto, unfolding(crate::specs::Rooms::check_rooms))]
 fn check_rooms(n: usize, table: usize, js: usize, layout: &Layout<'_>) -> Result<(), Refusal>
     requires { (0 < n) × (n ≤ 12) }
     ensures { result ≡ check_rooms n table js (length layout.now.us.now) (length layout.now.vs.now) (length layout.now.ws.now) }
@@ -22,7 +23,7 @@ fn check_rooms(n: usize, table: usize, js: usize, layout: &Layout<'_>) -> Result
 }
 
 // Refusals 1 to 4 and 15, then 7.
-#[tactic(auto, unfolding(crate::specs::Rooms::check_search))]
+#[tactic(auto, using(plane::proofs::Checks::accepted), unfolding(crate::specs::Rooms::check_search))]
 pub fn check_search(
     sinks: &Sinks<'_>,
     table: usize,
