@@ -4,16 +4,14 @@ use mathlib.Core.List.{List, [], ◌∷◌, ◌++◌}
 use Prim.Native.Nat.{ℕ, ◌+◌, ◌-◌, ◌*◌}
 use native.Mathlib.Numerals.{add-one}
 use borrow.Author.Tests.{eq-eqb, ne_eqb}
-use lib.IntN.{ℤ, pos}
 use lib.ListN.{get_or}
-use Rattle.text.specs.Decimal.{blank, decimal, signed, minus}
-use Rattle.lines.specs.Lines.{line, refused, place_field, refusal_line, parent_field, node_line, node_lines}
+use Rattle.text.specs.Decimal.{blank, decimal, minus}
+use Rattle.lines.specs.Lines.{line, refused, place_field, refusal_line, parent_field, node_lines}
 use Rattle.lines.specs.Parts.{place_end, line_of, lines_to}
 use Rattle.lines.specs.declared.embedded.Embedded.{Embedded}
 use Rattle.plane.specs.Refusals.{number, place}
 use Rattle.plane.specs.declared.refusal.Refusal.{Refusal}
-use Rattle.plane.specs.declared.refusal.Place.{Place}
-use Rattle.plane.specs.declared.refusal.Place.TheVariants.{None, At}
+use Rattle.std.specs.Prelude.{Option, Some, None}
 use Rattle.text.specs.Written.{Writes}
 use Rattle.text.specs.declared.page.Page.{Page}
 use Rattle.text.proofs.Written.{then}
@@ -27,9 +25,9 @@ unfolding parent_field
 field_other n ps k e = rw (ne_eqb k (2 * n - 2) e)
 
 -- a refusal by its parts
-place_parts : (f : List ℕ) (p : Place) → line (refused ∷ f ∷ place_field p) ≡ (refused ++ (blank ∷ [])) ++ (f ++ place_end p)
+place_parts : (f : List ℕ) (p : Option ℕ) → line (refused ∷ f ∷ place_field p) ≡ (refused ++ (blank ∷ [])) ++ (f ++ place_end p)
 place_parts f None = refl
-place_parts f (At i) = refl
+place_parts f (Some i) = refl
 
 pub refusal_parts : (r : Refusal) → refusal_line r ≡ (refused ++ (blank ∷ [])) ++ (decimal (number r) ++ place_end (place r))
 unfolding refusal_line

@@ -1,7 +1,7 @@
 -- Lists with the same entries give the same lines.
 use mathlib.Core.Path.{◌≡◌, refl, sym, ◌∙◌}
 use mathlib.Core.Bool.{Bool, true, false}
-use mathlib.Core.List.{List, ◌++◌}
+use mathlib.Core.List.{List}
 use Prim.Native.Nat.{ℕ, zero, suc, ◌-◌, ◌*◌, ◌<◌, ◌≤◌}
 use native.Mathlib.Omega.{arith}
 use borrow.Author.Tests.{eqb-true, eqb-false}
@@ -15,7 +15,7 @@ use Rattle.orders.specs.Sound.{Ordered}
 use Rattle.orders.proofs.Parents.{parent_above}
 use Rattle.text.specs.Decimal.{decimal}
 use Rattle.lines.proofs.Size.{node_figures}
-use Rattle.lines.specs.Lines.{first_line, second_line, parents, parent_field, node_line, node_lines, tree_text}
+use Rattle.lines.specs.Lines.{parents, parent_field, node_line, node_lines}
 use Rattle.lines.proofs.Fields.{field-root, field_other}
 
 -- below m the lists have the same entries; the root's parent does not matter

@@ -1,10 +1,8 @@
 -- Document 01, "The program and its lines".
-use Rattle.std.specs.Prelude.{Bool, cond, List, [], ◌∷◌, ◌++◌, ℕ, zero, suc, ◌-◌, ◌*◌, eqb, ℤ, pos, get_or}
+use Rattle.std.specs.Prelude.{Bool, cond, List, [], ◌∷◌, ◌++◌, ℕ, zero, suc, ◌-◌, ◌*◌, eqb, ℤ, pos, get_or, Option, Some, None}
 use Rattle.lists.specs.Grow.{tab}
 use Rattle.plane.specs.Refusals.{number, place}
 use Rattle.plane.specs.declared.refusal.Refusal.{Refusal}
-use Rattle.plane.specs.declared.refusal.Place.{Place}
-use Rattle.plane.specs.declared.refusal.Place.TheVariants.{None, At}
 use Rattle.text.specs.Decimal.{decimal, signed, minus, blank}
 use Rattle.lines.specs.Brackets.{brackets}
 use Rattle.orders.specs.Nodes.{node, parent}
@@ -73,9 +71,9 @@ tree_text n total isProven js us vs ws =
     first_line n total isProven ++ (second_line n js ++ node_lines n (parents n js) us vs ws (2 * n - 1))
 
 -- "A refusal prints "refused", the number and the place if any."
-abbrev pub place_field : Place → List (List ℕ)
+abbrev pub place_field : Option ℕ → List (List ℕ)
 place_field None = []
-place_field (At i) = decimal i ∷ []
+place_field (Some i) = decimal i ∷ []
 
 unfoldable pub refusal_line : Refusal → List ℕ
 refusal_line r = line (refused ∷ decimal (number r) ∷ place_field (place r))

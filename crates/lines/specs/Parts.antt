@@ -1,9 +1,7 @@
 -- For the code alone: what the lines of the nodes are written from, and the end of a refusal.
-use Rattle.std.specs.Prelude.{Bool, List, [], ◌∷◌, ◌++◌, ℕ, ◌-◌, ◌*◌, ◌≤◌, ◌<◌, ℤ, length}
+use Rattle.std.specs.Prelude.{Bool, List, [], ◌∷◌, ◌++◌, ℕ, ◌-◌, ◌*◌, ◌≤◌, ◌<◌, ℤ, length, Option, Some, None}
 use Rattle.orders.specs.Sound.{Ordered}
 use Rattle.plane.specs.Sinks.{Ranged}
-use Rattle.plane.specs.declared.refusal.Place.{Place}
-use Rattle.plane.specs.declared.refusal.Place.TheVariants.{None, At}
 use Rattle.text.specs.Decimal.{decimal, blank}
 use Rattle.lines.specs.Lines.{feed, parents, parent_field, node_line, node_lines, tree_text}
 use Rattle.lines.specs.declared.embedded.Embedded.{Embedded}
@@ -30,9 +28,9 @@ abbrev pub from_parent : Embedded → ℕ → List ℕ
 from_parent t k = blank ∷ parent_field t.n (parents t.n t.js.now) k ++ (feed ∷ [])
 
 -- the last field of a refusal, if any, and the line feed
-abbrev pub place_end : Place → List ℕ
+abbrev pub place_end : Option ℕ → List ℕ
 place_end None = feed ∷ []
-place_end (At i) = blank ∷ decimal i ++ (feed ∷ [])
+place_end (Some i) = blank ∷ decimal i ++ (feed ∷ [])
 
 -- sinks that were checked
 pub record Sinked (xs ys : List ℤ) (delays : List ℕ) : Type 0 where

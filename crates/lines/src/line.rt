@@ -8,7 +8,7 @@ ghost use Rattle.text.specs.Written.{Room, Writes};
 
 use crate::embedded::Embedded;
 use plane::refusal;
-use plane::refusal::{Place, Refusal};
+use plane::refusal::Refusal;
 use text::page::Page;
 
 // The last field of line 1: whether the tree is proven.
@@ -79,12 +79,12 @@ pub fn node_lines(page: &mut Page, t: &Embedded, ps: &[usize; 1023])
 
 // The end of a refusal: the place if any.
 #[tactic(auto, using(crate::proofs::Size::figures))]
-fn place_end(page: &mut Page, p: Place)
+fn place_end(page: &mut Page, p: Option<usize>)
     requires { page.old.at + 22 ≤ length page.old.out.now }
     ensures writes { Writes (place_end p) page.old page.new }
     ensures within { page.new.at ≤ page.old.at + 22 }
 {
-    let Place::At(i) = p else {
+    let Some(i) = p else {
         return page.byte(b'\n');
     };
     page.next(i);

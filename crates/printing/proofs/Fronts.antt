@@ -12,7 +12,6 @@ use Rattle.lists.proofs.Front.{front_at, front_tall}
 use Rattle.zero_skew.specs.Plane.{Sinks, u, v}
 use Rattle.plane.specs.Sinks.{sinks_at}
 use Rattle.orders.specs.Nodes.{places_u, places_v, wires, value, wire}
-use Rattle.orders.specs.Sound.{Ordered}
 use Rattle.embedding.specs.Ready.{Embeds}
 use Rattle.lines.specs.Lines.{parents, tree_text}
 use Rattle.printing.specs.Program.{tree_lines}

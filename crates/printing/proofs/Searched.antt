@@ -12,7 +12,7 @@ use Rattle.lists.proofs.Front.{front_part}
 use Rattle.zero_skew.specs.Plane.{Sinks}
 use Rattle.plane.specs.Sinks.{sinks_at, prompt}
 use Rattle.plane.specs.declared.refusal.Refusal.{Refusal}
-use Rattle.plane.specs.declared.refusal.Checked.TheVariants.{Fine, Refused}
+use Rattle.std.specs.Prelude.{Ok, Err}
 use Rattle.orders.specs.Sound.{Ordered}
 use Rattle.nearest.specs.Calls.{order_at}
 use Rattle.nearest.proofs.Validity.{order-valid}
@@ -55,10 +55,10 @@ pub text_long : (f : List ℕ) → 32768 < length f → text_of f ≡ too_long
 unfolding text_of
 text_long f h = rw (lt-ltb 32768 (length f) h)
 
-pub text_refused : (f : List ℕ) {r : Refusal} → length f ≤ 32768 → check_sink_file f ≡ Refused r → text_of f ≡ refusal_line r
+pub text_refused : (f : List ℕ) {r : Refusal} → length f ≤ 32768 → check_sink_file f ≡ Err r → text_of f ≡ refusal_line r
 unfolding text_of answer_text
 text_refused f {r} h e = rw (le-ltb 32768 (length f) h, e)
 
-pub text_lines : (f : List ℕ) → length f ≤ 32768 → check_sink_file f ≡ Fine → text_of f ≡ lines_of (sinks_at (xs_in f) (ys_in f) (prompt (xs_in f)))
+pub text_lines : (f : List ℕ) → length f ≤ 32768 → check_sink_file f ≡ Ok tt → text_of f ≡ lines_of (sinks_at (xs_in f) (ys_in f) (prompt (xs_in f)))
 unfolding text_of answer_text
 text_lines f h e = rw (le-ltb 32768 (length f) h, e)

@@ -10,8 +10,8 @@ use Rattle.zero_skew.specs.Plane.{Sinks}
 use Rattle.plane.specs.Sinks.{sinks_at, prompt}
 use Rattle.plane.specs.declared.refusal.Refusal.{Refusal}
 use Rattle.plane.specs.declared.refusal.Refusal.TheVariants.{Lists, NoSink, TooMany, Outside, Joins, Room, Form, Tags, Unlike, Late}
-use Rattle.plane.specs.declared.refusal.Checked.{Checked}
-use Rattle.plane.specs.declared.refusal.Checked.TheVariants.{Fine, Refused}
+use Rattle.std.specs.Prelude.{Ok, Err}
+use Rattle.plane.specs.Refusals.{Checked}
 use Rattle.house.specs.Reading.{check_sink_file, xs_in, ys_in}
 use Rattle.text.specs.Decimal.{digit, digits, decimal, blank}
 use Rattle.lines.specs.Lines.{refused, first_line, tree_text, refusal_line, too_long}
@@ -40,8 +40,8 @@ line_never (Late i) e = omega (arith, byte 8 (refusal_line (Late i)) e)
 
 answer_never : (c : Checked) (s : Sinks) → SaysFive (answer_text c s) → ⊥
 unfolding answer_text lines_of tree_text first_line
-answer_never Fine s e = omega (arith, byte 0 (lines_of s) e)
-answer_never (Refused r) s e = line_never r e
+answer_never (Ok u) s e = omega (arith, byte 0 (lines_of s) e)
+answer_never (Err r) s e = line_never r e
 
 pub never_printed : (f : List ℕ) → SaysFive (text_of f) → ⊥
 unfolding text_of too_long

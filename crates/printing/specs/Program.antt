@@ -1,9 +1,8 @@
 -- Document 01, "The program and its lines": what the program prints for its input.
-use Rattle.std.specs.Prelude.{Bool, cond, List, ℕ, leb, ltb, length}
+use Rattle.std.specs.Prelude.{Bool, cond, List, ℕ, leb, ltb, length, Ok, Err}
 use Rattle.zero_skew.specs.Plane.{Sinks}
 use Rattle.plane.specs.Sinks.{sinks_at, prompt}
-use Rattle.plane.specs.declared.refusal.Checked.{Checked}
-use Rattle.plane.specs.declared.refusal.Checked.TheVariants.{Fine, Refused}
+use Rattle.plane.specs.Refusals.{Checked}
 use Rattle.orders.specs.Nodes.{places_u, places_v, wires, total}
 use Rattle.nearest.specs.Nearest.{order}
 use Rattle.subsets.specs.Best.{step_count}
@@ -24,8 +23,8 @@ unfoldable pub lines_of : Sinks → List ℕ
 lines_of s = tree_lines s (joins_of s) (leb s.n 12)
 
 unfoldable pub answer_text : Checked → Sinks → List ℕ
-answer_text Fine s = lines_of s
-answer_text (Refused r) s = refusal_line r
+answer_text (Ok u) s = lines_of s
+answer_text (Err r) s = refusal_line r
 
 -- "The tree program reads a sink file"; "Input over 32,768 bytes prints "refused input"."
 unfoldable pub text_of : List ℕ → List ℕ

@@ -1,5 +1,5 @@
 // The program's answer to a sink file.
-ghost use Rattle.std.specs.Prelude.{◌≡◌, ◌+◌, ◌≤◌, length};
+ghost use Rattle.std.specs.Prelude.{◌≡◌, ◌+◌, ◌-◌, ◌*◌, ◌≤◌, length};
 ghost use Rattle.lists.specs.Grow.{front};
 ghost use Rattle.plane.specs.Sinks.{sinks_at};
 ghost use Rattle.lines.specs.Parts.{Sinked};
@@ -8,7 +8,6 @@ ghost use Rattle.printing.specs.Program.{joins_of, lines_of, text_of};
 ghost use Rattle.text.specs.Written.{Writes};
 
 use embedding::embed;
-use house::answer::Reading;
 use house::sink_file;
 use lines::embedded::Embedded;
 use lines::{line, whole};
@@ -18,8 +17,9 @@ use subsets::subset;
 use text::page::Page;
 
 // The pairs of the program's tree: of the exact search for at most twelve sinks, by least diameter for more.
-fn write_joins(xs: &[i32], ys: &[i32], delays: &[u32], js: &mut [u16; 1022])
-    requires { Sinked xs.now ys.now delays.now }
+fn write_joins(xs: &[i32], ys: &[i32], delays: &[u32], js: &mut [u16])
+    requires sinks { Sinked xs.now ys.now delays.now }
+    requires room { 2 * (length xs.now - 1) ≤ length js.old }
     ensures { js.new ≡ front (joins_of (sinks_at xs.now ys.now delays.now)) js.old }
 {
     if xs.len() <= 12 {
@@ -30,20 +30,22 @@ fn write_joins(xs: &[i32], ys: &[i32], delays: &[u32], js: &mut [u16; 1022])
     order::order_sound(xs, ys, delays, js);
 }
 
-// The lines of the program's tree.
-fn sinks_lines(page: &mut Page, xs: &[i32], ys: &[i32], delays: &[u32])
+// The lines of the program's tree, in room for N nodes.
+fn lines_in<const N: usize>(page: &mut Page, xs: &[i32], ys: &[i32], delays: &[u32])
     requires sinks { Sinked xs.now ys.now delays.now }
+    requires nodes { 2 * length xs.now - 1 ≤ N }
+    requires size { N ≤ 1023 }
     requires room { page.old.at + 49152 ≤ length page.old.out.now }
     ensures writes { Writes (lines_of (sinks_at xs.now ys.now delays.now)) page.old page.new }
     ensures within { page.new.at ≤ page.old.at + 49152 }
 {
     let n = xs.len();
-    let mut js = [0u16; 1022];
+    let mut js = [0u16; N];
     write_joins(xs, ys, delays, &mut js);
     let js = &js[..2 * (n - 1)];
-    let mut us = [0i32; 1023];
-    let mut vs = [0i32; 1023];
-    let mut ws = [0u32; 1023];
+    let mut us = [0i32; N];
+    let mut vs = [0i32; N];
+    let mut ws = [0u32; N];
     let total = embed::embed_sound(xs, ys, delays, js, &mut us, &mut vs, &mut ws);
     let tree = Embedded {
         n,
@@ -54,6 +56,19 @@ fn sinks_lines(page: &mut Page, xs: &[i32], ys: &[i32], delays: &[u32])
         total,
     };
     whole::tree_text(page, &tree, n <= 12);
+}
+
+// The same, with no more room to blank than the sinks need.
+fn sinks_lines(page: &mut Page, xs: &[i32], ys: &[i32], delays: &[u32])
+    requires sinks { Sinked xs.now ys.now delays.now }
+    requires room { page.old.at + 49152 ≤ length page.old.out.now }
+    ensures writes { Writes (lines_of (sinks_at xs.now ys.now delays.now)) page.old page.new }
+    ensures within { page.new.at ≤ page.old.at + 49152 }
+{
+    if 12 < xs.len() {
+        return lines_in::<1023>(page, xs, ys, delays);
+    }
+    lines_in::<23>(page, xs, ys, delays);
 }
 
 // All that the program prints for its input. Every answer fits the buffer.
@@ -69,8 +84,8 @@ pub fn tree_lines(input: &[u8], out: &mut [u8; 49152]) -> usize
     let mut ys = [0i32; 512];
     let none = [0u32; 512];
     match sink_file::read_sinks(input, &mut xs, &mut ys) {
-        Reading::NotRead(r) => line::refusal_line(&mut page, r),
-        Reading::Sinks(n) => sinks_lines(&mut page, &xs[..n], &ys[..n], &none[..n]),
+        Err(r) => line::refusal_line(&mut page, r),
+        Ok(n) => sinks_lines(&mut page, &xs[..n], &ys[..n], &none[..n]),
     }
     page.len()
 }

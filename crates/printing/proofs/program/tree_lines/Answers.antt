@@ -6,7 +6,7 @@ use Rattle.lines.specs.Lines.{too_long}
 use Rattle.lines.proofs.Printing.{printed}
 use Rattle.printing.proofs.ReadSinks.{taken_is, sinked, refused_is}
 use Rattle.printing.proofs.Searched.{text_lines, text_long, text_refused}
-use Rattle.printing.proofs.program.tree_lines.Goals.{in-NotRead, in-Sinks}
+use Rattle.printing.proofs.program.tree_lines.Goals.{in-Err, in-Ok}
 use Rattle.printing.proofs.program.tree_lines.Goals as goal
 
 pub too_long_line-requires : goal.too_long_line-requires
@@ -22,7 +22,7 @@ returns-then-input-gt32768 c =
 
 pub sinks_lines-requires : goal.sinks_lines-requires
 sinks_lines-requires c =
-    let t = taken_is c.args.input.now c.read_sinks.result c.read_sinks.ensures refl refl c.in-Sinks.is in
+    let t = taken_is c.args.input.now c.read_sinks.result c.read_sinks.ensures refl refl c.in-Ok.is in
     let z : length c.new-page.result.out.now ≡ 49152 = search rules in
     record { sinks = rw (t.takes_x, t.takes_y, t.takes_none) (sinked c.args.input.now t.fine); room = omega (arith, z) }
 
@@ -31,12 +31,12 @@ returns c =
     let f = c.args.input.now in
     let z : length c.new-page.result.out.now ≡ 49152 = search rules in
     elim c.match-read_sinks.branch [
-      | in-NotRead w ↦
+      | in-Err w ↦
           let x = w.refusal_line.ensures in
-          rw (c.len-2.ensures, text_refused f c.if-input-gt32768.false (refused_is f c.read_sinks.result c.read_sinks.ensures refl refl w.in-NotRead.is), ← c.new-page.ensures.holds, w.page-is)
+          rw (c.len-2.ensures, text_refused f c.if-input-gt32768.false (refused_is f c.read_sinks.result c.read_sinks.ensures refl refl w.in-Err.is), ← c.new-page.ensures.holds, w.page-is)
           (printed x.writes c.new-page.ensures.empty (omega (arith, x.within)))
-      | in-Sinks w ↦
-          let t = taken_is f c.read_sinks.result c.read_sinks.ensures refl refl w.in-Sinks.is in
+      | in-Ok w ↦
+          let t = taken_is f c.read_sinks.result c.read_sinks.ensures refl refl w.in-Ok.is in
           let x = w.sinks_lines.ensures in
           rw (c.len-2.ensures, text_lines f c.if-input-gt32768.false t.fine, ← c.new-page.ensures.holds, w.page-is)
           (printed (rw (t.takes_x, t.takes_y, t.takes_none) at x.writes) c.new-page.ensures.empty (omega (arith, x.within)))

@@ -14,12 +14,12 @@ digits-requires c =
     let f = c.ranges.self in
     let v = simp (to_z-of_z f) at c.unsigned_abs.ensures.value in
     elim c.if-self-lt0.branch [
-      then-self-lt0 w ↦
-        let h = simp (to_z-of_z f) at w.if-self-lt0.true in
-        rw (v, w.page-is) (room_then w.byte.ensures (rw (signed_low c.args.self h) at c.requires))
-    | else-self-lt0 w ↦
-        let h = simp (to_z-of_z f) at w.if-self-lt0.false in
-        rw (v, w.page-is) (rw (signed_high c.args.self h) at c.requires)
+      | then-self-lt0 w ↦
+          let h = simp (to_z-of_z f) at w.if-self-lt0.true in
+          rw (v, w.page-is) (room_then w.byte.ensures (rw (signed_low c.args.self h) at c.requires))
+      | else-self-lt0 w ↦
+          let h = simp (to_z-of_z f) at w.if-self-lt0.false in
+          rw (v, w.page-is) (rw (signed_high c.args.self h) at c.requires)
     ]
 
 pub returns : goal.returns
@@ -27,10 +27,10 @@ returns c =
     let f = c.ranges.self in
     let v = simp (to_z-of_z f) at c.unsigned_abs.ensures.value in
     elim c.if-self-lt0.branch [
-      then-self-lt0 w ↦
-        let h = simp (to_z-of_z f) at w.if-self-lt0.true in
-        rw (signed_low c.args.self h) (then w.byte.ensures (rw (v, w.page-is) at c.digits.ensures))
-    | else-self-lt0 w ↦
-        let h = simp (to_z-of_z f) at w.if-self-lt0.false in
-        rw (signed_high c.args.self h) (rw (v, w.page-is) at c.digits.ensures)
+      | then-self-lt0 w ↦
+          let h = simp (to_z-of_z f) at w.if-self-lt0.true in
+          rw (signed_low c.args.self h) (then w.byte.ensures (rw (v, w.page-is) at c.digits.ensures))
+      | else-self-lt0 w ↦
+          let h = simp (to_z-of_z f) at w.if-self-lt0.false in
+          rw (signed_high c.args.self h) (rw (v, w.page-is) at c.digits.ensures)
     ]

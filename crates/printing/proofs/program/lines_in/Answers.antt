@@ -1,14 +1,13 @@
 use native.Mathlib.Omega.{arith}
-use lib.ListN.{length}
 use Rattle.orders.proofs.Bounded.{sound}
 use Rattle.printing.specs.Program.{lines_of, joins_of}
 use Rattle.plane.specs.Sinks.{sinks_at}
 use Rattle.printing.proofs.Fronts.{tall_u, tall_v, tall_w, embedded_text}
 use Rattle.printing.proofs.Searched.{joins_ordered, joins_taken}
-use Rattle.printing.proofs.program.sinks_lines.Goals as goal
+use Rattle.printing.proofs.program.lines_in.Goals as goal
 
 pub embed_sound-total-requires : goal.embed_sound-total-requires
-embed_sound-total-requires c =
+embed_sound-total-requires g c =
     let a = c.args in
     let p = c.requires.sinks in
     record {
@@ -19,7 +18,7 @@ embed_sound-total-requires c =
     }
 
 pub tree_text-requires-clause-tree : goal.tree_text-requires-clause-tree
-tree_text-requires-clause-tree c =
+tree_text-requires-clause-tree g c =
     let a = c.args in
     let p = c.requires.sinks in
     let j = joins_taken a.xs.now a.ys.now a.delays.now p _ c.write_joins.new.js c.write_joins.ensures in
@@ -33,7 +32,7 @@ tree_text-requires-clause-tree c =
 
 pub returns-clause-writes : goal.returns-clause-writes
 unfolding lines_of
-returns-clause-writes c =
+returns-clause-writes g c =
     let a = c.args in
     let p = c.requires.sinks in
     let j = joins_taken a.xs.now a.ys.now a.delays.now p _ c.write_joins.new.js c.write_joins.ensures in
