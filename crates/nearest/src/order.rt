@@ -67,7 +67,7 @@ pub fn order_sound(xs: &[i32], ys: &[i32], delays: &[u32], js: &mut [u16])
 }
 
 // Refusals 1 to 4 and 15, and 7 where the buffer of joins is too short.
-#[tactic(auto, unfolding(crate::specs::Calls::check_nearest))]
+#[tactic(auto, using(plane::proofs::Checks::accepted), unfolding(crate::specs::Calls::check_nearest))]
 pub fn check_nearest(xs: &[i32], ys: &[i32], delays: &[u32], room: usize) -> Result<(), Refusal>
     ensures { result ≡ check_nearest xs.now ys.now delays.now room }
 {
@@ -79,6 +79,7 @@ pub fn check_nearest(xs: &[i32], ys: &[i32], delays: &[u32], room: usize) -> Res
 }
 
 // Refusals 1 to 4, 15 and 7, else the joining order in the lent buffer.
+#[tactic(auto, using(crate::proofs::Passing::ready))]
 pub fn join_nearest(xs: &[i32], ys: &[i32], delays: &[u32], js: &mut [u16]) -> Result<(), Refusal>
     ensures { Joining xs.now ys.now delays.now js.old (told result) js.new }
 {

@@ -26,7 +26,7 @@ pub fn tree_sound(
 }
 
 // Refusals 1 to 4, 15 and 7, else the total, with the joins, the places and the wires in the lent buffers.
-#[tactic(auto, unfolding(crate::specs::Calls::tree_answer))]
+#[tactic(auto, using(embedding::proofs::Rooms::has_room, crate::proofs::Passing::ready), unfolding(crate::specs::Calls::tree_answer))]
 pub fn embed_nearest(
     xs: &[i32],
     ys: &[i32],

@@ -41,6 +41,7 @@ pub fn ends(b: Box) -> Extent
 }
 
 // The diameter of a box, whatever numbers it holds.
+#[tactic(auto, using(crate::proofs::Unlifted::diam_is))]
 pub fn diameter(b: Box) -> u32
     ensures { result ≡ across (bounds b) }
 {
@@ -76,7 +77,7 @@ fn box_sound(xs: &[i32], ys: &[i32], delays: &[u32]) -> Box
 }
 
 // The box of all sinks, or refusal 1 to 4 or 15.
-#[tactic(auto, unfolding(crate::specs::Bounds::box_answer))]
+#[tactic(auto, using(crate::proofs::Checks::accepted, crate::proofs::Checks::fitting, crate::proofs::Covering::covers_box), unfolding(crate::specs::Bounds::box_answer))]
 pub fn box_of(xs: &[i32], ys: &[i32], delays: &[u32]) -> Result<Box, Refusal>
     ensures { seen result ≡ box_answer xs.now ys.now delays.now }
 {

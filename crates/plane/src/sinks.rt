@@ -28,6 +28,7 @@ fn first_late(delays: &[u32]) -> Option<usize>
 }
 
 // Whether one of them is late. The greatest is found first: no turn of the loop ends it, so that the compiler takes many at once.
+#[tactic(auto, using(crate::proofs::Checks::late_more))]
 fn any_late(delays: &[u32]) -> bool
     ensures { result ≡ any (too_late delays.now) (length delays.now) }
 {

@@ -8,7 +8,15 @@ use plane::sinks;
 use subsets::subset;
 
 // Refusal 7: room for the table, the pairs and all nodes of n sinks.
-fn check_rooms(n: usize, table: usize, js: usize, us: usize, vs: usize, ws: usize) -> Result<(), Refusal>
+#[tactic(auto, unfolding(crate::specs::Rooms::check_rooms))]
+fn check_rooms(
+    n: usize,
+    table: usize,
+    js: usize,
+    us: usize,
+    vs: usize,
+    ws: usize,
+) -> Result<(), Refusal>
     requires { (0 < n) × (n ≤ 12) }
     ensures { result ≡ check_rooms n table js us vs ws }
 {
@@ -22,7 +30,7 @@ fn check_rooms(n: usize, table: usize, js: usize, us: usize, vs: usize, ws: usiz
 }
 
 // Refusals 1 to 4 and 15, then 7.
-#[tactic(auto, unfolding(crate::specs::Rooms::check_search))]
+#[tactic(auto, using(plane::proofs::Checks::accepted), unfolding(crate::specs::Rooms::check_search))]
 pub fn check_search(
     xs: &[i32],
     ys: &[i32],

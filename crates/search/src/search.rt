@@ -90,6 +90,7 @@ pub fn search_sound(
 
 // Searches the sinks' shortest tree, examining at most `budget` splits: refusals 1 to 4, 15 and 7, else the total, with the work table, the joins, the places and the wires in the lent
 // buffers. From F(n) splits on the tree is proven; below, it is that of joining by least diameter.
+#[tactic(auto, using(crate::proofs::Finding::provided))]
 pub fn search(
     xs: &[i32],
     ys: &[i32],

@@ -3,7 +3,7 @@ use mathlib.Core.Path.{◌≡◌, sym, ◌∙◌}
 use mathlib.Core.List.{List}
 use Prim.Native.Nat.{ℕ}
 use lib.IntN.{ℤ}
-use Rattle.plane.specs.declared.refusal.Checked.{Checked}
+use Rattle.plane.specs.Refusals.{Checked}
 use Rattle.plane.specs.Sinks.{prompt, check_sinks}
 use Rattle.orders.specs.Joins.{check_order}
 use Rattle.tree_files.specs.Trees.{tree_file, check_tree_file}

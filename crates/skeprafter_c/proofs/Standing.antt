@@ -11,8 +11,8 @@ use Rattle.plane.specs.Said.Said.{answered, refused}
 use Rattle.measures.specs.Boxes.{numbers_of, box_in}
 use Rattle.plane.specs.Bounds.{box_answer, verdict, held_after, widened_by, sink_bounds}
 use Rattle.plane.specs.declared.refusal.Refusal.{Refusal}
-use Rattle.plane.specs.declared.refusal.Checked.{Checked}
-use Rattle.plane.specs.declared.refusal.Checked.TheVariants.{Refused}
+use Rattle.std.specs.Prelude.{Err}
+use Rattle.plane.specs.Refusals.{Checked}
 use Rattle.plane.proofs.Unlifted.{bounds_once}
 use Rattle.skeprafter_c.specs.Kept.{held, ends_of, StandsFor, Keeps, Boxes, Widens}
 
@@ -41,7 +41,7 @@ pub only_skeprafter_widen : (kept : List ℕ) (x y : ℤ) (w : ℕ) {k k' s s' :
 only_skeprafter_widen kept x y w p q = (stands_once (widened_by (held kept) x y w) p.keeps q.keeps, p.says ∙ sym q.says)
 
 -- "the held box stays as it is", to the word: where the sink is refused, and four words were lent
-pub refused_stays : (kept : List ℕ) (x y : ℤ) (w : ℕ) (r : Refusal) {k s : List ℕ} → length kept ≡ 4 → verdict x y w ≡ Refused r → Widens kept x y w k s → k ≡ kept
+pub refused_stays : (kept : List ℕ) (x y : ℤ) (w : ℕ) (r : Refusal) {k s : List ℕ} → length kept ≡ 4 → verdict x y w ≡ Err r → Widens kept x y w k s → k ≡ kept
 refused_stays kept x y w r h e p =
     let same = ap (λ (c : Checked). held_after c (held kept) (hull (held kept) (sink_bounds x y w))) e in
     stands_once (held kept) (record { four = p.keeps.four; holds = p.keeps.holds ∙ same }) (record { four = h; holds = refl })

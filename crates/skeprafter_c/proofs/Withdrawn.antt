@@ -6,21 +6,18 @@ use native.Mathlib.Omega.{arith}
 use lib.IntN.{ℤ}
 use lib.ListN.{length, get_or}
 use Rattle.plane.specs.Bounds.{box_answer}
-use Rattle.plane.specs.Refusals.{number, place, and_then}
+use Rattle.plane.specs.Refusals.{Checked, number, place, and_then}
 use Rattle.plane.specs.Said.{after}
 use Rattle.plane.specs.Sinks.{check_sinks}
 use Rattle.plane.specs.declared.refusal.Refusal.{Refusal}
-use Rattle.plane.specs.declared.refusal.Place.{Place}
-use Rattle.plane.specs.declared.refusal.Place.TheVariants.{None, At}
-use Rattle.plane.specs.declared.refusal.Checked.{Checked}
-use Rattle.plane.specs.declared.refusal.Checked.TheVariants.{Fine, Refused}
+use Rattle.std.specs.Prelude.{Option, Some, None, Ok, Err}
 use Rattle.plane.proofs.Withdrawn.{never_five}
 use Rattle.orders.specs.Joins.{check_order}
 use Rattle.embedding.specs.Embedding.{check_room, answer}
 use Rattle.nearest.specs.Calls.{check_nearest, tree_answer}
 use Rattle.search.specs.Rooms.{check_search}
 use Rattle.house.specs.Writing.{room_for}
-use Rattle.skeprafter_c.specs.Words.{placed_words, words, no_value, one_value_word, found_values, refusal_words, checked_words, box_words}
+use Rattle.skeprafter_c.specs.Words.{placed_words, words, no_value, one_value_word, found_values, refusal_words, answer_words}
 use Rattle.search.specs.Searching.{search_answer}
 use Rattle.house.specs.Writing.{write_answer}
 use Rattle.house.specs.Reading.{sinks_answer, joins_answer}
@@ -29,23 +26,24 @@ use Rattle.house.specs.Reading.{sinks_answer, joins_answer}
 abbrev SaysFive : List ℕ → Type 0
 SaysFive said = get_or said 0 0 ≡ 5
 
-first_word : (n : ℕ) (p : Place) → get_or (placed_words n p) 0 0 ≡ n
+first_word : (n : ℕ) (p : Option ℕ) → get_or (placed_words n p) 0 0 ≡ n
 first_word n None = refl
-first_word n (At i) = refl
+first_word n (Some i) = refl
 
 refusal_never : (r : Refusal) → SaysFive (refusal_words r) → ⊥
 refusal_never r e = never_five r (sym (first_word (number r) (place r)) ∙ e)
 
 -- after a check, and every answer is one
 after_never : {A : Type 0} (values : A → List ℕ) (c : Checked) (a : A) → SaysFive (words values (after c a)) → ⊥
-after_never values Fine a e = omega (arith, e)
-after_never values (Refused r) a e = refusal_never r e
+after_never values (Ok u) a e = omega (arith, e)
+after_never values (Err r) a e = refusal_never r e
 
 -- what is said of one more sink, and of joining
-pub checked_never : (c : Checked) → SaysFive (checked_words c) → ⊥
-checked_never c e = after_never no_value c tt e
+pub checked_never : (c : Checked) → SaysFive (answer_words no_value c) → ⊥
+checked_never (Ok u) e = omega (arith, e)
+checked_never (Err r) e = refusal_never r e
 
-pub box_never : (xs ys : List ℤ) (delays : List ℕ) → SaysFive (box_words (box_answer xs ys delays)) → ⊥
+pub box_never : (xs ys : List ℤ) (delays : List ℕ) → SaysFive (words no_value (box_answer xs ys delays)) → ⊥
 unfolding box_answer
 box_never xs ys delays e = after_never no_value (check_sinks 512 xs ys delays) _ e
 

@@ -1,6 +1,6 @@
 -- What the functions on house files do: as the library's own, and what they say in six numbers.
 use Rattle.std.specs.Prelude.{◌≡◌, List, ℕ, ℤ, length}
-use Rattle.plane.specs.declared.refusal.Checked.{Checked}
+use Rattle.plane.specs.Refusals.{Checked}
 use Rattle.plane.specs.Sinks.{prompt, check_sinks}
 use Rattle.orders.specs.Joins.{check_order}
 use Rattle.tree_files.specs.Trees.{tree_file, check_tree_file}

@@ -5,7 +5,7 @@ use Rattle.plane.specs.Said.{Said}
 use Rattle.plane.specs.Said.Said.{answered, refused}
 use Rattle.measures.specs.Boxes.{box_in}
 use Rattle.plane.specs.Bounds.{bounds, box_answer, verdict, widened_by}
-use Rattle.skeprafter_c.specs.Words.{box_words, checked_words}
+use Rattle.skeprafter_c.specs.Words.{words, no_value, answer_words}
 
 -- the box that four words stand for
 abbrev pub held : List ℕ → Bounds
@@ -24,12 +24,12 @@ Keeps (refused n place) before after = after ≡ before
 -- the box of all sinks: the words before and after, and what is said
 pub record Boxes (xs ys : List ℤ) (delays kept kept' said : List ℕ) : Type 0 where
   pub keeps : Keeps (box_answer xs ys delays) kept kept'
-  pub says : said ≡ box_words (box_answer xs ys delays)
+  pub says : said ≡ words no_value (box_answer xs ys delays)
 
 -- one more sink: the words before, the sink, the words after, and what is said
 pub record Widens (kept : List ℕ) (x y : ℤ) (w : ℕ) (kept' said : List ℕ) : Type 0 where
   pub keeps : StandsFor kept' (widened_by (held kept) x y w)
-  pub says : said ≡ checked_words (verdict x y w)
+  pub says : said ≡ answer_words no_value (verdict x y w)
 
 -- the four numbers of a box, with sign
 abbrev pub ends_of : Bounds → List ℤ

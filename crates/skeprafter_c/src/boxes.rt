@@ -1,14 +1,10 @@
 // Boxes. A box that the caller keeps is four words, whatever they are; `skeprafter_ends` reads them.
 ghost use Rattle.std.specs.Prelude.{◌≡◌};
 ghost use Rattle.zero_skew.specs.Box.{across};
-ghost use Rattle.plane.specs.Said.{told_check};
-ghost use Rattle.plane.specs.Bounds as library;
-ghost use Rattle.plane.specs.Bounds.{bounds};
 ghost use Rattle.skeprafter_c.specs.Kept.{held, ends_of, Boxes, Widens};
 
 use crate::said;
 use measures::boxes;
-use skeprafter::{Box, Boxed, Widening};
 
 #[unsafe(no_mangle)]
 pub extern "C" fn skeprafter_box_of(
@@ -20,27 +16,14 @@ pub extern "C" fn skeprafter_box_of(
 )
     ensures { Boxes x.now y.now delays.now kept.old kept.new said.new }
 {
-    let answer = skeprafter::box_of(x, y, delays);
-    match answer {
-        Boxed::Of(b) => {
+    match skeprafter::box_of(x, y, delays) {
+        Ok(b) => {
             *kept = boxes::numbers(b);
             *said = [0; 6];
         }
-        Boxed::NoBox(r) => {
+        Err(r) => {
             *said = said::of_refusal(r);
         }
-    }
-}
-
-// A box by value, lent to the library's `widen`, which widens it where it stands.
-fn lent(b: Box, x: i32, y: i32, delay: u32) -> Widening
-    ensures { library.Widens (bounds b) x y delay (bounds result.held) (told_check result.said) }
-{
-    let mut held = b;
-    let said = skeprafter::widen(&mut held, x, y, delay);
-    Widening {
-        held: held,
-        said: said,
     }
 }
 
@@ -54,11 +37,10 @@ pub extern "C" fn skeprafter_widen(
 )
     ensures { Widens kept.old x y delay kept.new said.new }
 {
-    let w = lent(boxes::of_numbers(*kept), x, y, delay);
-    let after = w.held;
-    let verdict = w.said;
-    *kept = boxes::numbers(after);
-    *said = said::of_checked(verdict);
+    let mut held = boxes::of_numbers(*kept);
+    let verdict = skeprafter::widen(&mut held, x, y, delay);
+    *kept = boxes::numbers(held);
+    *said = said::of_answer(verdict);
 }
 
 #[unsafe(no_mangle)]

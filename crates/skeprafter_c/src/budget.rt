@@ -18,5 +18,5 @@ pub extern "C" fn skeprafter_search(
 )
     ensures { Searched x.now y.now delays.now budget table.old joins.old u.old v.old wires.old table.new joins.new u.new v.new wires.new said.new }
 {
-    *said = said::of_searched(skeprafter::search(x, y, delays, budget, table, joins, u, v, wires));
+    *said = said::of_answer(skeprafter::search(x, y, delays, budget, table, joins, u, v, wires));
 }

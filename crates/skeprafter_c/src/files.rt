@@ -7,7 +7,7 @@ use crate::said;
 pub extern "C" fn skeprafter_write_sinks(x: &[i32], y: &[i32], out: &mut [u8], said: &mut [u64; 6])
     ensures { WritesSinkFile x.now y.now out.old out.new said.new }
 {
-    *said = said::of_written(skeprafter::write_sinks(x, y, out));
+    *said = said::of_answer(skeprafter::write_sinks(x, y, out));
 }
 
 #[unsafe(no_mangle)]
@@ -20,7 +20,7 @@ pub extern "C" fn skeprafter_write_joined(
 )
     ensures { WritesJoinedFile x.now y.now joins.now out.old out.new said.new }
 {
-    *said = said::of_written(skeprafter::write_joined(x, y, joins, out));
+    *said = said::of_answer(skeprafter::write_joined(x, y, joins, out));
 }
 
 #[unsafe(no_mangle)]
@@ -33,7 +33,7 @@ pub extern "C" fn skeprafter_write_tree(
 )
     ensures { WritesTreeFile x.now y.now joins.now out.old out.new said.new }
 {
-    *said = said::of_written(skeprafter::write_tree(x, y, joins, out));
+    *said = said::of_answer(skeprafter::write_tree(x, y, joins, out));
 }
 
 #[unsafe(no_mangle)]
@@ -45,7 +45,7 @@ pub extern "C" fn skeprafter_read_sinks(
 )
     ensures { ReadsSinkFile file.now x.old y.old x.new y.new said.new }
 {
-    *said = said::of_read(skeprafter::read_sinks(file, x, y));
+    *said = said::of_answer(skeprafter::read_sinks(file, x, y));
 }
 
 #[unsafe(no_mangle)]
@@ -58,7 +58,7 @@ pub extern "C" fn skeprafter_read_joined(
 )
     ensures { ReadsJoinedFile file.now x.old y.old joins.old x.new y.new joins.new said.new }
 {
-    *said = said::of_read(skeprafter::read_joined(file, x, y, joins));
+    *said = said::of_answer(skeprafter::read_joined(file, x, y, joins));
 }
 
 #[unsafe(no_mangle)]
@@ -71,5 +71,5 @@ pub extern "C" fn skeprafter_read_tree(
 )
     ensures { ReadsTreeFile file.now x.old y.old joins.old x.new y.new joins.new said.new }
 {
-    *said = said::of_read(skeprafter::read_tree(file, x, y, joins));
+    *said = said::of_answer(skeprafter::read_tree(file, x, y, joins));
 }

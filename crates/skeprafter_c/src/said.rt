@@ -1,88 +1,68 @@
 // What a call says, as six numbers: the refusal's number (0: accepted), whether it has a place, the place, a value, the steps, and whether proven.
-ghost use Rattle.std.specs.Prelude.{◌≡◌};
-ghost use Rattle.skeprafter_c.specs.Words.{refusal_words, checked_words, order_words, tree_words, mark_word, search_words, written_words, read_words};
+ghost use Rattle.std.specs.Prelude.{◌≡◌, List, ℕ};
+ghost use Rattle.plane.specs.Said.{refused_by};
+ghost use Rattle.plane.specs.Said.Said.{answered};
+ghost use Rattle.skeprafter_c.specs.Words.{words, no_value, one_value_word, found_values, refusal_words, answer_words};
 
-use skeprafter::{Checked, Embedded, Joined, Place, Reading, Refusal, Searched, Written};
+use skeprafter::{Found, Refusal};
 
-fn wide(n: u32) -> u64
-    ensures { result ≡ n }
-{
-    n as u64
+// What an accepted call answers with: its values are the last three of the six numbers.
+pub trait Values {
+    ghost values: { Self → List ℕ };
+
+    fn accepted(self) -> [u64; 6]
+        ensures { result ≡ words values (answered self) };
 }
 
-fn number(n: usize) -> u64
-    ensures { result ≡ n }
-{
-    n as u64
+impl Values for () {
+    ghost values = { no_value };
+
+    fn accepted(self) -> [u64; 6] {
+        [0, 0, 0, 0, 0, 0]
+    }
+}
+
+// A total.
+impl Values for u32 {
+    ghost values = { one_value_word };
+
+    fn accepted(self) -> [u64; 6] {
+        [0, 0, 0, u64::from(self), 0, 0]
+    }
+}
+
+// How many bytes, or how many sinks.
+impl Values for usize {
+    ghost values = { one_value_word };
+
+    fn accepted(self) -> [u64; 6] {
+        [0, 0, 0, self as u64, 0, 0]
+    }
+}
+
+impl Values for Found {
+    ghost values = { found_values };
+
+    fn accepted(self) -> [u64; 6] {
+        [0, 0, 0, u64::from(self.total), self.steps, u64::from(self.proven)]
+    }
 }
 
 pub fn of_refusal(r: Refusal) -> [u64; 6]
     ensures { result ≡ refusal_words r }
 {
-    let n = wide(skeprafter::number_of(r));
-    let p = skeprafter::place_of(r);
-    match p {
-        Place::None => [n, 0, 0, 0, 0, 0],
-        Place::At(i) => [n, 1, number(i), 0, 0, 0],
+    let n = u64::from(skeprafter::number_of(r));
+    match skeprafter::place_of(r) {
+        None => [n, 0, 0, 0, 0, 0],
+        Some(i) => [n, 1, i as u64, 0, 0, 0],
     }
 }
 
-pub fn of_checked(c: Checked) -> [u64; 6]
-    ensures { result ≡ checked_words c }
+pub fn of_answer<T: Values>(answer: Result<T, Refusal>) -> [u64; 6]
+    ensures { result ≡ answer_words T.values answer }
 {
-    match c {
-        Checked::Fine => [0, 0, 0, 0, 0, 0],
-        Checked::Refused(r) => of_refusal(r),
-    }
-}
-
-pub fn of_embedded(e: Embedded) -> [u64; 6]
-    ensures { result ≡ tree_words e }
-{
-    match e {
-        Embedded::Tree(t) => [0, 0, 0, wide(t), 0, 0],
-        Embedded::NoTree(r) => of_refusal(r),
-    }
-}
-
-pub fn of_joined(j: Joined) -> [u64; 6]
-    ensures { result ≡ order_words j }
-{
-    match j {
-        Joined::Order => [0, 0, 0, 0, 0, 0],
-        Joined::NoOrder(r) => of_refusal(r),
-    }
-}
-
-fn mark(proven: bool) -> u64
-    ensures { result ≡ mark_word proven }
-{
-    if proven { 1 } else { 0 }
-}
-
-pub fn of_searched(s: Searched) -> [u64; 6]
-    ensures { result ≡ search_words s }
-{
-    match s {
-        Searched::Tree(f) => [0, 0, 0, wide(f.total), f.steps, mark(f.proven)],
-        Searched::NoTree(r) => of_refusal(r),
-    }
-}
-
-pub fn of_written(w: Written) -> [u64; 6]
-    ensures { result ≡ written_words w }
-{
-    match w {
-        Written::Bytes(n) => [0, 0, 0, number(n), 0, 0],
-        Written::NotWritten(r) => of_refusal(r),
-    }
-}
-
-pub fn of_read(w: Reading) -> [u64; 6]
-    ensures { result ≡ read_words w }
-{
-    match w {
-        Reading::Sinks(n) => [0, 0, 0, number(n), 0, 0],
-        Reading::NotRead(r) => of_refusal(r),
+    match answer {
+        Ok(value) => value.accepted(),
+        Err(r) => of_refusal(r),
     }
 }

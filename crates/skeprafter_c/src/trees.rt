@@ -16,7 +16,7 @@ pub extern "C" fn skeprafter_embed(
 )
     ensures { Embeds x.now y.now delays.now joins.now u.old v.old wires.old u.new v.new wires.new said.new }
 {
-    *said = said::of_embedded(skeprafter::embed(x, y, delays, joins, u, v, wires));
+    *said = said::of_answer(skeprafter::embed(x, y, delays, joins, u, v, wires));
 }
 
 #[unsafe(no_mangle)]
@@ -29,7 +29,7 @@ pub extern "C" fn skeprafter_join_nearest(
 )
     ensures { Joins x.now y.now delays.now joins.old joins.new said.new }
 {
-    *said = said::of_joined(skeprafter::join_nearest(x, y, delays, joins));
+    *said = said::of_answer(skeprafter::join_nearest(x, y, delays, joins));
 }
 
 #[unsafe(no_mangle)]
@@ -45,5 +45,5 @@ pub extern "C" fn skeprafter_embed_nearest(
 )
     ensures { JoinsAndEmbeds x.now y.now delays.now joins.old u.old v.old wires.old joins.new u.new v.new wires.new said.new }
 {
-    *said = said::of_embedded(skeprafter::embed_nearest(x, y, delays, joins, u, v, wires));
+    *said = said::of_answer(skeprafter::embed_nearest(x, y, delays, joins, u, v, wires));
 }

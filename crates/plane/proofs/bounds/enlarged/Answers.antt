@@ -10,28 +10,6 @@ use Rattle.measures.proofs.Numbers.{nearer}
 use Rattle.plane.proofs.Unlifted.{hull-sink}
 use Rattle.plane.proofs.bounds.enlarged.Goals as goal
 
-pub returns-then-not-inside : goal.returns-then-not-inside
-returns-then-not-inside c =
-    let f = c.ranges.x in
-    let g = c.ranges.y in
-    rw (sym (simp to_z-of_z at c.inside.ensures) ∙ c.if-not-inside.true)
-
-pub returns-then-is_late : goal.returns-then-is_late
-returns-then-is_late c =
-    let f = c.ranges.x in
-    let g = c.ranges.y in
-    rw (sym (simp to_z-of_z at c.inside.ensures) ∙ c.if-not-inside.false, sym c.is_late.ensures ∙ c.if-is_late.true)
-
-pub sink_box-requires : goal.sink_box-requires
-sink_box-requires c =
-    let a = c.args in
-    let f = c.ranges.x in
-    let g = c.ranges.y in
-    let t = sym (simp to_z-of_z at c.inside.ensures) ∙ c.if-not-inside.false in
-    let (p, q) = and_both (in_range a.x) (in_range a.y) t in
-    let h = ltb-false 1000000 a.w (sym c.is_late.ensures ∙ c.if-is_late.false) in
-    simp to_z-of_z (nearer a.x p, nearer a.y q, omega arith)
-
 pub returns : goal.returns
 returns c =
     let a = c.args in

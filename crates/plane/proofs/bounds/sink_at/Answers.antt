@@ -7,14 +7,6 @@ use mir.Val.{SFits}
 use Rattle.plane.proofs.Covering.{covers_sink}
 use Rattle.plane.proofs.bounds.sink_at.Goals as goal
 
-pub sink_box-requires : goal.sink_box-requires
-sink_box-requires c =
-    let a = c.args in
-    let p = c.requires in
-    let f : SFits w32 (get_or a.xs.now a.i (pos 0)) = sfits_of c.sink_box-arg-1.given in
-    let g : SFits w32 (get_or a.ys.now a.i (pos 0)) = sfits_of c.sink_box-arg-2-1.given in
-    simp to_z-of_z (p.0.near_x a.i p.1, p.0.near_y a.i p.1, p.0.brief a.i)
-
 pub returns : goal.returns
 returns c =
     let a = c.args in

@@ -7,8 +7,8 @@ pub returns : goal.returns
 returns c =
     let f = c.ranges.x in
     let g = c.ranges.y in
-    let w = rw c.of_numbers.ensures at (simp to_z-of_z at c.lent-w.ensures) in
+    let w = rw c.of_numbers-held.ensures at (simp to_z-of_z at c.widen-verdict.ensures) in
     record {
       keeps = rw c.numbers.ensures (record { four = refl; holds = w.holds });
-      says = c.of_checked.ensures ∙ ap (words no_value) w.says;
+      says = c.of_answer.ensures ∙ ap (words no_value) w.says;
     }

@@ -1,6 +1,0 @@
-use Rattle.skeprafter_c.proofs.files.skeprafter_read_joined.Goals as goal
-
-pub returns : goal.returns
-returns c =
-    let p = c.read_joined.ensures in
-    record { does = rw p.answers at p; says = rw (c.of_read.ensures, p.answers) }

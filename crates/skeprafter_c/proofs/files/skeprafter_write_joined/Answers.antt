@@ -1,6 +1,0 @@
-use Rattle.skeprafter_c.proofs.files.skeprafter_write_joined.Goals as goal
-
-pub returns : goal.returns
-returns c =
-    let p = c.write_joined.ensures in
-    record { does = rw p.answers at p; says = rw (c.of_written.ensures, p.answers) }

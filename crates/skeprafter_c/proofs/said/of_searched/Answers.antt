@@ -1,7 +1,0 @@
-use Rattle.skeprafter_c.proofs.said.of_searched.Goals as goal
-
-pub returns-in-Tree : goal.returns-in-Tree
-returns-in-Tree c = rw (c.in-Tree.is, c.mark.ensures, c.wide.ensures)
-
-pub returns-in-NoTree : goal.returns-in-NoTree
-returns-in-NoTree c = rw c.in-NoTree.is c.of_refusal.ensures

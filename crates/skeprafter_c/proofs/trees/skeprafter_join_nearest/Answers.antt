@@ -1,6 +1,0 @@
-use Rattle.skeprafter_c.proofs.trees.skeprafter_join_nearest.Goals as goal
-
-pub returns : goal.returns
-returns c =
-    let p = c.join_nearest.ensures in
-    record { does = rw p.answers at p; says = rw (c.of_joined.ensures, p.answers) }
