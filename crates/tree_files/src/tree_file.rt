@@ -20,13 +20,23 @@ use house::room::room;
 use orders::check;
 use plane::refusal::Refusal;
 
+// What embedding gives: U, V and the wire to the parent of each node.
+#[derive(Clone, Copy)]
+struct Nodes<'a> {
+    us: &'a [i32],
+    vs: &'a [i32],
+    ws: &'a [u32],
+    ghost alike_v: { length us.now ≡ length vs.now },
+    ghost alike_w: { length us.now ≡ length ws.now },
+}
+
 // The fields of tags 4 and 5, and the byte after them.
-fn put_tags(out: &mut [u8], at: usize, us: &[i32], vs: &[i32], ws: &[u32]) -> usize
-    requires { (at + (6 + 12 * length us.now) ≤ length out.old) × (length us.now ≡ length vs.now) × (length us.now ≡ length ws.now) × (length us.now ≤ 1023) }
-    ensures { Put at (field 4 (places us.now vs.now) ++ field 5 (numbers 4 ws.now)) out.old out.new result }
+fn put_tags(out: &mut [u8], at: usize, nodes: Nodes) -> usize
+    requires { (at + (6 + 12 * length nodes.us.now) ≤ length out.old) × (length nodes.us.now ≤ 1023) }
+    ensures { Put at (field 4 (places nodes.entry.us.now nodes.entry.vs.now) ++ field 5 (numbers 4 nodes.entry.ws.now)) out.old out.new result }
 {
-    let next = record::put_places(out, at, Tag::Places, us, vs);
-    record::put_numbers(out, next, Tag::Wires, ws)
+    let next = record::put_places(out, at, Tag::Places, nodes.us, nodes.vs);
+    record::put_numbers(out, next, Tag::Wires, nodes.ws)
 }
 
 // The file of checked sinks and joins, and the byte after it.
@@ -45,7 +55,15 @@ fn put_tree(out: &mut [u8], xs: &[i32], ys: &[i32], js: &[u16]) -> usize
     };
     embed::embed_prompt(xs, ys, js, &mut layout);
     let at = joined_file::put_joined(out, xs, ys, js);
-    put_tags(out, at, &us[..m], &vs[..m], &ws[..m])
+    put_tags(
+        out,
+        at,
+        Nodes {
+            us: &us[..m],
+            vs: &vs[..m],
+            ws: &ws[..m],
+        },
+    )
 }
 
 // Refusals 1 to 4, 6 and 7, else the tree file in the lent buffer, and its bytes.
@@ -58,32 +76,31 @@ pub fn write_tree(xs: &[i32], ys: &[i32], js: &[u16], out: &mut [u8]) -> Result<
 }
 
 // Whether node k has another U, V or wire in the values of tags 4 and 5.
-fn is_unlike(us: &[i32], vs: &[i32], ws: &[u32], v4: &[u8], v5: &[u8], k: usize) -> bool
-    requires { (k < length us.now) × (k < length vs.now) × (k < length ws.now) × (k < length (firsts v4.now)) × (k < length (numbers_in 4 v5.now)) }
-    ensures { result ≡ unlike us.now vs.now ws.now (firsts v4.now) (seconds v4.now) (numbers_in 4 v5.now) k }
+fn is_unlike(nodes: Nodes, v4: &[u8], v5: &[u8], k: usize) -> bool
+    requires { (k < length nodes.us.now) × (k < length (firsts v4.now)) × (k < length (numbers_in 4 v5.now)) }
+    ensures { result ≡ unlike nodes.entry.us.now nodes.entry.vs.now nodes.entry.ws.now (firsts v4.now) (seconds v4.now) (numbers_in 4 v5.now) k }
 {
-    if i32::read(v4, 8 * k) != us[k] {
+    if i32::read(v4, 8 * k) != nodes.us[k] {
         return true;
     }
-    if i32::read(v4, 8 * k + 4) != vs[k] {
+    if i32::read(v4, 8 * k + 4) != nodes.vs[k] {
         return true;
     }
-    u32::read(v5, 4 * k) != ws[k]
+    u32::read(v5, 4 * k) != nodes.ws[k]
 }
 
 // Refusal 9, of the values of tags 4 and 5, against what embedding gives.
-fn check_nodes(us: &[i32], vs: &[i32], ws: &[u32], v4: &[u8], v5: &[u8]) -> Result<(), Refusal>
-    requires { (length us.now ≡ length vs.now) × (length us.now ≡ length ws.now) }
-    ensures { result ≡ check_nodes us.now vs.now ws.now (firsts v4.now) (seconds v4.now) (numbers_in 4 v5.now) }
+fn check_nodes(nodes: Nodes, v4: &[u8], v5: &[u8]) -> Result<(), Refusal>
+    ensures { result ≡ check_nodes nodes.entry.us.now nodes.entry.vs.now nodes.entry.ws.now (firsts v4.now) (seconds v4.now) (numbers_in 4 v5.now) }
 {
-    if record::count_places(v4) != us.len() {
+    if record::count_places(v4) != nodes.us.len() {
         return Err(Refusal::Tags);
     }
-    if record::count::<u32>(v5) != us.len() {
+    if record::count::<u32>(v5) != nodes.us.len() {
         return Err(Refusal::Tags);
     }
-    for k in 0..us.len() {
-        if is_unlike(us, vs, ws, v4, v5, k) {
+    for k in 0..nodes.us.len() {
+        if is_unlike(nodes, v4, v5, k) {
             return Err(Refusal::Unlike(k));
         }
     }
@@ -105,7 +122,15 @@ fn check_tags(xs: &[i32], ys: &[i32], js: &[u16], v4: &[u8], v5: &[u8]) -> Resul
         ws: &mut ws,
     };
     embed::embed_prompt(xs, ys, js, &mut layout);
-    check_nodes(&us[..m], &vs[..m], &ws[..m], v4, v5)
+    check_nodes(
+        Nodes {
+            us: &us[..m],
+            vs: &vs[..m],
+            ws: &ws[..m],
+        },
+        v4,
+        v5,
+    )
 }
 
 // Refusal 9, of the values of tags 2 to 5, of which the first two were checked.

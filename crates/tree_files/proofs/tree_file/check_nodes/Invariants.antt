@@ -5,4 +5,4 @@ use Rattle.tree_files.specs.Trees.{unlike}
 use Rattle.tree_files.proofs.tree_file.check_nodes.Given as goal
 
 abbrev pub invariant-loop-k : goal.invariant-loop-k
-invariant-loop-k l = Seek (unlike l.us l.vs l.ws (firsts l.v4) (seconds l.v4) (numbers_in 4 l.v5)) (length l.us) l.k
+invariant-loop-k l = Seek (unlike l.nodes.us.now l.nodes.vs.now l.nodes.ws.now (firsts l.v4) (seconds l.v4) (numbers_in 4 l.v5)) (length l.nodes.us.now) l.k

@@ -10,25 +10,25 @@ use Rattle.tree_files.proofs.tree_file.is_unlike.Goals as goal
 pub read-requires : goal.read-requires
 read-requires c = let n = length_firsts c.args.v4.now in omega arith
 
-pub returns-then-read-us : goal.returns-then-read-us
-returns-then-read-us c =
+pub returns-then-read-nodes : goal.returns-then-read-nodes
+returns-then-read-nodes c =
     let a = c.args in
     let n = length_firsts a.v4.now in
-    rw (first_in a.v4.now a.k (omega arith) ∙ sym c.read.ensures, equal_not _ _ (λ q. c.if-read-us.true (ap (of_z w32) q)))
+    rw (first_in a.v4.now a.k (omega arith) ∙ sym c.read.ensures, equal_not _ _ (λ q. c.if-read-nodes.true (ap (of_z w32) q)))
 
 pub read-requires-2 : goal.read-requires-2
 read-requires-2 c = let n = length_firsts c.args.v4.now in omega arith
 
-pub returns-then-read-vs : goal.returns-then-read-vs
-returns-then-read-vs c =
+pub returns-then-read-nodes-2 : goal.returns-then-read-nodes-2
+returns-then-read-nodes-2 c =
     let a = c.args in
     let n = length_firsts a.v4.now in
-    let e : c.read.result ≡ get_or a.us.now a.k (pos 0) = search rules in
+    let e : c.read.result ≡ get_or a.nodes.us.now a.k (pos 0) = search rules in
     rw (
       first_in a.v4.now a.k (omega arith) ∙ sym c.read.ensures ∙ e,
-      equal_self (get_or a.us.now a.k (pos 0)),
+      equal_self (get_or a.nodes.us.now a.k (pos 0)),
       second_in a.v4.now a.k (omega arith) ∙ sym c.read-2.ensures,
-      equal_not _ _ (λ q. c.if-read-vs.true (ap (of_z w32) q)),
+      equal_not _ _ (λ q. c.if-read-nodes-2.true (ap (of_z w32) q)),
     )
 
 pub read-requires-3 : goal.read-requires-3
@@ -39,13 +39,13 @@ returns c =
     let a = c.args in
     let n = length_firsts a.v4.now in
     let m = length_numbers_in 4 a.v5.now in
-    let e : c.read.result ≡ get_or a.us.now a.k (pos 0) = search rules in
-    let f : c.read-2.result ≡ get_or a.vs.now a.k (pos 0) = search rules in
+    let e : c.read.result ≡ get_or a.nodes.us.now a.k (pos 0) = search rules in
+    let f : c.read-2.result ≡ get_or a.nodes.vs.now a.k (pos 0) = search rules in
     rw (
       first_in a.v4.now a.k (omega arith) ∙ sym c.read.ensures ∙ e,
-      equal_self (get_or a.us.now a.k (pos 0)),
+      equal_self (get_or a.nodes.us.now a.k (pos 0)),
       second_in a.v4.now a.k (omega arith) ∙ sym c.read-2.ensures ∙ f,
-      equal_self (get_or a.vs.now a.k (pos 0)),
+      equal_self (get_or a.nodes.vs.now a.k (pos 0)),
       number_of 4 a.v5.now a.k (omega arith),
       c.read-3.ensures,
     )

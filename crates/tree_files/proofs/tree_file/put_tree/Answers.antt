@@ -1,4 +1,3 @@
-use mathlib.Core.Path.{sym, ◌∙◌}
 use native.Mathlib.Omega.{arith}
 use Prim.Native.Nat.{◌-◌, ◌*◌}
 use lib.IntN.{pos}
@@ -22,15 +21,11 @@ put_tags-requires c =
     let m = 2 * length xs - 1 in
     let e = c.embed_prompt.ensures.embeds in
     let p = front_part (places_u s js) (replicate 1023 (pos 0)) m e.writes_u (length_u xs ys js) in
-    let q = front_part (places_v s js) (replicate 1023 (pos 0)) m e.writes_v (length_v xs ys js) in
-    let r = front_part (wires s js) (replicate 1023 0) m e.writes_w (length_wires xs ys js) in
     let u = length_u xs ys js in
     let j = c.requires.0.joins in
     let l = c.put_joined-at.ensures in
-    rw (p, q, r) (
+    rw p (
       omega (arith, put_size l, l.ends, length-joined_file xs ys js j.valid j.some, j.some),
-      u ∙ sym (length_v xs ys js),
-      u ∙ sym (length_wires xs ys js),
       omega (arith, j.few),
     )
 
