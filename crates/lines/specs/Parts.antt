@@ -2,6 +2,7 @@
 use Rattle.std.specs.Prelude.{Bool, List, [], ◌∷◌, ◌++◌, ℕ, ◌-◌, ◌*◌, ◌≤◌, ◌<◌, ℤ, length, Option, Some, None}
 use Rattle.orders.specs.Sound.{Ordered}
 use Rattle.plane.specs.Sinks.{Ranged}
+use Rattle.plane.specs.declared.sinks.Sinks as lent
 use Rattle.text.specs.Decimal.{decimal, blank}
 use Rattle.lines.specs.Lines.{feed, parents, parent_field, node_line, node_lines, tree_text}
 use Rattle.lines.specs.declared.embedded.Embedded.{Embedded}
@@ -37,3 +38,6 @@ pub record Sinked (xs ys : List ℤ) (delays : List ℕ) : Type 0 where
   pub ranged : Ranged xs ys delays
   pub some : 0 < length xs
   pub few : length xs ≤ 512
+
+abbrev pub SinkedBy : lent.Sinks → Type 0
+SinkedBy s = Sinked s.xs.now s.ys.now s.delays.now

@@ -1,52 +1,60 @@
 // The program's answer to a sink file.
 ghost use Rattle.std.specs.Prelude.{◌≡◌, ◌+◌, ◌-◌, ◌*◌, ◌≤◌, length};
 ghost use Rattle.lists.specs.Grow.{front};
-ghost use Rattle.plane.specs.Sinks.{sinks_at};
-ghost use Rattle.lines.specs.Parts.{Sinked};
+ghost use Rattle.plane.specs.Sinks.{sinks_in, count};
+ghost use Rattle.lines.specs.Parts.{SinkedBy};
 ghost use Rattle.lines.specs.Printed.{Printed};
 ghost use Rattle.printing.specs.Program.{joins_of, lines_of, text_of};
 ghost use Rattle.text.specs.Written.{Writes};
 
 use embedding::embed;
+use embedding::layout::Layout;
 use house::sink_file;
 use lines::embedded::Embedded;
 use lines::{line, whole};
 use nearest::order;
+use plane::sinks::Sinks;
 use search::search as exact;
 use subsets::subset;
 use text::page::Page;
 
 // The pairs of the program's tree: of the exact search for at most twelve sinks, by least diameter for more.
-fn write_joins(xs: &[i32], ys: &[i32], delays: &[u32], js: &mut [u16])
-    requires sinks { Sinked xs.now ys.now delays.now }
-    requires room { 2 * (length xs.now - 1) ≤ length js.old }
-    ensures { js.new ≡ front (joins_of (sinks_at xs.now ys.now delays.now)) js.old }
+fn write_joins(sinks: &Sinks<'_>, js: &mut [u16])
+    requires sinks { SinkedBy sinks.now }
+    requires room { 2 * (count sinks.now - 1) ≤ length js.old }
+    ensures { js.new ≡ front (joins_of (sinks_in sinks.now)) js.old }
 {
-    if xs.len() <= 12 {
+    let n = sinks.xs.len();
+    if n <= 12 {
         let mut table = [0u32; 4096];
-        exact::search_joins(xs, ys, delays, subset::all_steps(xs.len()), &mut table, js);
+        exact::search_joins(sinks, subset::all_steps(n), &mut table, js);
         return;
     }
-    order::order_sound(xs, ys, delays, js);
+    order::order_sound(sinks, js);
 }
 
 // The lines of the program's tree, in room for N nodes.
-fn lines_in<const N: usize>(page: &mut Page, xs: &[i32], ys: &[i32], delays: &[u32])
-    requires sinks { Sinked xs.now ys.now delays.now }
-    requires nodes { 2 * length xs.now - 1 ≤ N }
+fn lines_in<const N: usize>(page: &mut Page, sinks: &Sinks<'_>)
+    requires sinks { SinkedBy sinks.now }
+    requires nodes { 2 * count sinks.now - 1 ≤ N }
     requires size { N ≤ 1023 }
     requires room { page.old.at + 49152 ≤ length page.old.out.now }
-    ensures writes { Writes (lines_of (sinks_at xs.now ys.now delays.now)) page.old page.new }
+    ensures writes { Writes (lines_of (sinks_in sinks.now)) page.old page.new }
     ensures within { page.new.at ≤ page.old.at + 49152 }
 {
-    let n = xs.len();
+    let n = sinks.xs.len();
     let mut js = [0u16; N];
-    write_joins(xs, ys, delays, &mut js);
+    write_joins(sinks, &mut js);
     let js = &js[..2 * (n - 1)];
     let mut us = [0i32; N];
     let mut vs = [0i32; N];
     let mut ws = [0u32; N];
-    let total = embed::embed_sound(xs, ys, delays, js, &mut us, &mut vs, &mut ws);
+    let mut layout = Layout {
+        us: &mut us,
+        vs: &mut vs,
+        ws: &mut ws,
+    };
+    let total = embed::embed_sound(sinks, js, &mut layout);
     let tree = Embedded {
         n,
         js,
@@ -59,16 +67,16 @@ fn lines_in<const N: usize>(page: &mut Page, xs: &[i32], ys: &[i32], delays: &[u
 }
 
 // The same, with no more room to blank than the sinks need.
-fn sinks_lines(page: &mut Page, xs: &[i32], ys: &[i32], delays: &[u32])
-    requires sinks { Sinked xs.now ys.now delays.now }
+fn sinks_lines(page: &mut Page, sinks: &Sinks<'_>)
+    requires sinks { SinkedBy sinks.now }
     requires room { page.old.at + 49152 ≤ length page.old.out.now }
-    ensures writes { Writes (lines_of (sinks_at xs.now ys.now delays.now)) page.old page.new }
+    ensures writes { Writes (lines_of (sinks_in sinks.now)) page.old page.new }
     ensures within { page.new.at ≤ page.old.at + 49152 }
 {
-    if 12 < xs.len() {
-        return lines_in::<1023>(page, xs, ys, delays);
+    if 12 < sinks.xs.len() {
+        return lines_in::<1023>(page, sinks);
     }
-    lines_in::<23>(page, xs, ys, delays);
+    lines_in::<23>(page, sinks);
 }
 
 // All that the program prints for its input. Every answer fits the buffer.
@@ -85,7 +93,14 @@ pub fn tree_lines(input: &[u8], out: &mut [u8; 49152]) -> usize
     let none = [0u32; 512];
     match sink_file::read_sinks(input, &mut xs, &mut ys) {
         Err(r) => line::refusal_line(&mut page, r),
-        Ok(n) => sinks_lines(&mut page, &xs[..n], &ys[..n], &none[..n]),
+        Ok(n) => {
+            let sinks = Sinks {
+                xs: &xs[..n],
+                ys: &ys[..n],
+                delays: &none[..n],
+            };
+            sinks_lines(&mut page, &sinks)
+        }
     }
     page.len()
 }

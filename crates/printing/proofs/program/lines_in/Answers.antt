@@ -11,7 +11,7 @@ embed_sound-total-requires g c =
     let a = c.args in
     let p = c.requires.sinks in
     record {
-      sound = rw (joins_taken a.xs.now a.ys.now a.delays.now p _ c.write_joins.new.js c.write_joins.ensures) (sound p.ranged (joins_ordered a.xs.now a.ys.now a.delays.now p));
+      sound = rw (joins_taken a.sinks.now.xs.now a.sinks.now.ys.now a.sinks.now.delays.now p _ c.write_joins.new.js c.write_joins.ensures) (sound p.ranged (joins_ordered a.sinks.now.xs.now a.sinks.now.ys.now a.sinks.now.delays.now p));
       room_u = omega arith;
       room_v = omega arith;
       room_w = omega arith;
@@ -21,13 +21,13 @@ pub tree_text-requires-clause-tree : goal.tree_text-requires-clause-tree
 tree_text-requires-clause-tree g c =
     let a = c.args in
     let p = c.requires.sinks in
-    let j = joins_taken a.xs.now a.ys.now a.delays.now p _ c.write_joins.new.js c.write_joins.ensures in
-    let e = rw j at c.embed_sound-total.ensures in
+    let j = joins_taken a.sinks.now.xs.now a.sinks.now.ys.now a.sinks.now.delays.now p _ c.write_joins.new.js c.write_joins.ensures in
+    let e = rw j at c.embed_sound-total.ensures.embeds in
     record {
-      ordered = rw j (joins_ordered a.xs.now a.ys.now a.delays.now p);
-      tall_u = tall_u a.xs.now a.ys.now a.delays.now _ e;
-      tall_v = tall_v a.xs.now a.ys.now a.delays.now _ e;
-      tall_w = tall_w a.xs.now a.ys.now a.delays.now _ e;
+      ordered = rw j (joins_ordered a.sinks.now.xs.now a.sinks.now.ys.now a.sinks.now.delays.now p);
+      tall_u = tall_u a.sinks.now.xs.now a.sinks.now.ys.now a.sinks.now.delays.now _ e;
+      tall_v = tall_v a.sinks.now.xs.now a.sinks.now.ys.now a.sinks.now.delays.now _ e;
+      tall_w = tall_w a.sinks.now.xs.now a.sinks.now.ys.now a.sinks.now.delays.now _ e;
     }
 
 pub returns-clause-writes : goal.returns-clause-writes
@@ -35,6 +35,6 @@ unfolding lines_of
 returns-clause-writes g c =
     let a = c.args in
     let p = c.requires.sinks in
-    let j = joins_taken a.xs.now a.ys.now a.delays.now p _ c.write_joins.new.js c.write_joins.ensures in
-    let e = rw j at c.embed_sound-total.ensures in
-    rw (j, embedded_text a.xs.now a.ys.now a.delays.now (joins_of (sinks_at a.xs.now a.ys.now a.delays.now)) e) at c.tree_text.ensures.writes
+    let j = joins_taken a.sinks.now.xs.now a.sinks.now.ys.now a.sinks.now.delays.now p _ c.write_joins.new.js c.write_joins.ensures in
+    let e = rw j at c.embed_sound-total.ensures.embeds in
+    rw (j, embedded_text a.sinks.now.xs.now a.sinks.now.ys.now a.sinks.now.delays.now (joins_of (sinks_at a.sinks.now.xs.now a.sinks.now.ys.now a.sinks.now.delays.now)) e) at c.tree_text.ensures.writes
