@@ -11,6 +11,7 @@ pub mod Moving
 pub mod Rowing
 pub mod Leasts
 pub mod Placing
+pub mod Halving
 pub mod Entering
 pub mod Closing
 pub mod Picking

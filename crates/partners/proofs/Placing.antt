@@ -1,25 +1,17 @@
--- Where a node stands among the live ones, which rise.
+-- Where the first entry of a list stands that passes a test, and so where a node stands among the live ones.
 use mathlib.Core.Path.{◌≡◌, refl, sym}
-use mathlib.Core.Logic.{⊎_elim}
 use mathlib.Core.Bool.{Bool, true, false, cond}
 use mathlib.Core.List.{List}
 use Prim.Native.Nat.{ℕ, ◌+◌, ◌≤◌, ◌<◌}
 use native.Mathlib.Omega.{arith}
-use borrow.Author.Tests.{eqb-true, eqb-false, eq-eqb, ne_eqb, lt-ltb, le-ltb, ltb-false}
+use borrow.Author.Tests.{eqb-true, eqb-false, lt-ltb, le-ltb, ltb-false}
 use lib.Dec.{eqb, ltb}
 use lib.ListN.{length, get_or}
-use Rattle.std.specs.Prelude.{Option, None, Some, Result, Ok, Err, MatchResult, position}
-use Rattle.std.proofs.Common.{nat_cmp}
-use Rattle.std.specs.Result.{result_ok}
+use Rattle.std.specs.Prelude.{None, Some, position}
 use Rattle.std.specs.List.{position_or_len}
-use Rattle.std.specs.List.Sorted.{IsBinarySearchResult}
-use Rattle.std.proofs.lemmas.List.Sorted.{searched}
 use Rattle.std.proofs.lemmas.List.Sums.{position_or_len_is, fails_before_first}
 use Rattle.std.proofs.lemmas.List.Quantifiers.{position-Some}
-use Rattle.lists.proofs.Tests.{or_lt}
-use Rattle.partners.specs.Live.{Rising}
 use Rattle.partners.specs.Rows.{place_of}
-use Rattle.partners.proofs.Members.{rising_at, rising_up}
 
 -- ---- the first entry that passes a test, and none
 module _ (p : ℕ → Bool) (xs : List ℕ) where
@@ -28,14 +20,6 @@ module _ (p : ℕ → Bool) (xs : List ℕ) where
 
   pub position_none : ((k : ℕ) → k < length xs → p (get_or xs k 0) ≡ false) → None ≡ position p xs
   position_none f = (let q = position_or_len_is p xs (length xs) 0 (omega arith) f (λ l. absurd (omega arith)) in rw (q, le-ltb (length xs) (length xs) (omega arith)))
-
--- ---- where a node stands among the live ones, which rise
-pub placed : (ls : List ℕ) (x : ℕ) → Rising ls → (o : Result ℕ ℕ) → IsBinarySearchResult (λ y. nat_cmp y x) ls o → result_ok o ≡ place_of ls x
-placed ls x r o s = go o (searched ls x o s (λ i j h l. rising_up i j r h l))
-  where
-    go : (o : Result ℕ ℕ) → MatchResult o (λ i. (i < length ls) × (get_or ls i 0 ≡ x)) (λ i. (i ≤ length ls) × ((k : ℕ) → k < i → get_or ls k 0 < x) × ((k : ℕ) → i ≤ k → k < length ls → x < get_or ls k 0)) → result_ok o ≡ place_of ls x
-    go (Ok i) m = position_some (λ a. eqb a x) ls i m.0 (λ k l. ne_eqb (get_or ls k 0) x (λ q. omega (arith, q, m.1, rising_at k i r l m.0))) (eq-eqb (get_or ls i 0) x m.1)
-    go (Err i) m = position_none (λ a. eqb a x) ls (λ k l. ne_eqb (get_or ls k 0) x (λ q. ⊎_elim (λ p. omega (arith, q, m.1 k p)) (λ p. omega (arith, q, m.2 k p l)) (or_lt k i)))
 
 -- a node that is found stands there; one that is not found stands nowhere
 pub hit_at : (ls : List ℕ) (x : ℕ) {t : ℕ} → place_of ls x ≡ Some t → (t < length ls) × (get_or ls t 0 ≡ x)

@@ -1,19 +1,31 @@
 -- The rows: what a write to one of them does, and what a run of writes does.
 use mathlib.Core.Path.{◌≡◌, refl, sym, ◌∙◌, ap}
-use mathlib.Core.Bool.{Bool, true, false}
+use mathlib.Core.Bool.{Bool, true, false, cond}
 use Prim.Native.Nat.{ℕ, ◌+◌, ◌≤◌, ◌<◌}
 use native.Mathlib.Omega.{arith}
 use borrow.Author.Tests.{eqb-true, eqb-false}
-use lib.Dec.{eqb}
+use lib.Dec.{eqb, ltb}
 use Rattle.measures.specs.declared.boxes.Box.{Box}
 use Rattle.partners.specs.declared.rows.Rows.{Rows}
-use Rattle.partners.specs.Rows.{Row, row_at, given, held, Sets, Holds, NewBox}
+use Rattle.partners.specs.Rows.{Row, row_at, span, given, held, Sets, Holds, NewBox}
 
--- the box of a row is written, and then a partner
-pub sets_both : {t far at : ℕ} {b : Box} {r : Row} {old mid new : Rows} (q : Row) → NewBox t b old mid → b ≡ q.box → Sets t (given (row_at mid t) at far) mid new → given q at far ≡ r → Sets t r old new
-sets_both {far = far} {at = at} q p e w f =
+-- a row's partner is chosen: the nearer of the node it is held against and the one it kept
+held_as : (b : Box) (m : ℕ) (r : Row) {e x y : ℕ} → e ≡ span r b → x ≡ cond (ltb e r.far) e r.far → y ≡ cond (ltb e r.far) m r.at → given r y x ≡ held b m r
+unfolding held
+held_as b m r p q u = rw (q, u, p) (go (ltb (span r b) r.far))
+  where
+    go : (c : Bool) → given r (cond c m r.at) (cond c (span r b) r.far) ≡ cond c (given r m (span r b)) r
+    go true = refl
+    go false = refl
+
+pub chosen_held : (b : Box) (m x y : ℕ) (r : Row) {t e : ℕ} {o : Box} {old new : Rows} → o ≡ r.box → e ≡ span r b → x ≡ cond (ltb e r.far) e r.far → y ≡ cond (ltb e r.far) m r.at → Sets t (record { box = o; far = x; at = y }) old new → Sets t (held b m r) old new
+chosen_held b m x y r s p u v w = record { here = w.here ∙ ap (λ (o : Box). record { box = o; far = x; at = y }) s ∙ held_as b m r p u v; others = w.others }
+
+-- a partner is written after a box
+pub sets_both : {t far at : ℕ} {b : Box} {old mid new : Rows} → NewBox t b old mid → Sets t (given (row_at mid t) at far) mid new → Sets t (record { box = b; far = far; at = at }) old new
+sets_both {far = far} {at = at} p w =
     record {
-      here = w.here ∙ ap (λ (o : Box). record { box = o; far = far; at = at }) (p.here ∙ e) ∙ f;
+      here = w.here ∙ ap (λ (o : Box). record { box = o; far = far; at = at }) p.here;
       others = λ s l n. w.others s l n ∙ p.others s l n;
     }
 

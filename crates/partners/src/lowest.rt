@@ -22,15 +22,11 @@ fn least(ds: &[u32]) -> u32
 fn first_at(ds: &[u32], d: u32) -> Option<usize>
     ensures { result ≡ position (λ e. eqb e d) ds.now }
 {
-    for (t, e) in ds.iter().enumerate() {
-        if *e == d {
-            return Some(t);
-        }
-    }
-    None
+    ds.iter().position(|e| *e == d)
 }
 
-// The first of the least of some numbers.
+// The first of the least of some numbers. It is a function of its own also when it runs: so its loop has one index, and not one for each array that a caller reads by it.
+#[inline(never)]
 fn first_least(ds: &[u32]) -> usize
     requires { 0 < length ds.now }
     ensures { FirstLeast ds.now result }

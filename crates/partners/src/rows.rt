@@ -56,35 +56,17 @@ impl Rows {
         boxes::breadth(boxes::hull(self.box_in(t), b))
     }
 
-    // How far row s's partner is, and which, once the row is held against node m with box b. Both numbers are chosen, whichever is nearer: so many rows at a time can be.
-    #[tactic(auto, unfolding(crate::specs::Rows::held))]
-    fn held(&self, s: usize, b: Box, m: u32) -> (u32, u32)
-        requires { (s < 512) × InOrder b }
-        ensures { given (row_at self.now s) result.1 result.0 ≡ held b m (row_at self.now s) }
-    {
-        let e = self.span(s, b);
-        let far = self.far[s];
-        let at = self.partner[s];
-        let nearer = e < far;
-        (if nearer { e } else { far }, if nearer { m } else { at })
-    }
-
-    // Row t has another partner.
-    fn put_partner(&mut self, t: usize, far: u32, at: u32)
-        requires { t < 512 }
-        ensures { Sets t (given (row_at self.old t) at far) self.old self.new }
-    {
-        self.far[t] = far;
-        self.partner[t] = at;
-    }
-
-    // Row t, held against node m with box b.
+    // Row t, held against node m with box b. Both numbers are written in any case: so many rows at a time can be. (With `min` for the distance, or both chosen as a pair, a branch hangs on which is nearer where fewer than four rows are left: slower.)
     fn hold_row(&mut self, t: usize, b: Box, m: u32)
         requires { (t < 512) × InOrder b }
         ensures { Sets t (held b m (row_at self.old t)) self.old self.new }
     {
-        let (far, at) = self.held(t, b, m);
-        self.put_partner(t, far, at);
+        let e = self.span(t, b);
+        let kept = self.far[t];
+        let at = self.partner[t];
+        let nearer = e < kept;
+        self.far[t] = if nearer { e } else { kept };
+        self.partner[t] = if nearer { m } else { at };
     }
 
     // The first k rows, held against node m with box b.
@@ -107,12 +89,13 @@ impl Rows {
         }
     }
 
-    // Row t's partner is this node.
+    // Row t has another partner.
     pub fn give(&mut self, t: usize, q: Near)
         requires { (t < 512) × (q.at < 1024) }
         ensures { Sets t (given (row_at self.old t) q.at q.far) self.old self.new }
     {
-        self.put_partner(t, q.far, q.at as u32);
+        self.far[t] = q.far;
+        self.partner[t] = q.at as u32;
     }
 
     // Row t's box. Its partner is whatever stood there.
@@ -126,14 +109,18 @@ impl Rows {
         self.high_v[t] = b.hv;
     }
 
-    // Row s, held against node m with box b, becomes row t.
+    // Row s, held against node m with box b, becomes row t. All numbers are written in any case, as when it is held where it stands.
     fn take_row(&mut self, t: usize, s: usize, b: Box, m: u32)
         requires { (t < 512) × (s < 512) × InOrder b }
         ensures { Sets t (held b m (row_at self.old s)) self.old self.new }
     {
-        let (far, at) = self.held(s, b, m);
+        let e = self.span(s, b);
+        let far = self.far[s];
+        let at = self.partner[s];
+        let nearer = e < far;
         self.put_row(t, self.box_in(s));
-        self.put_partner(t, far, at);
+        self.far[t] = if nearer { e } else { far };
+        self.partner[t] = if nearer { m } else { at };
     }
 
     // Each row of a run becomes the one D after it, held against node m with box b. How far rows move is a plain number: so many move at a time.
