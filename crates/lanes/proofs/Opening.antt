@@ -110,6 +110,21 @@ lane_room (suc (suc (suc (suc (suc (suc zero)))))) h = (omega arith, omega arith
 lane_room (suc (suc (suc (suc (suc (suc (suc zero))))))) h = (omega arith, omega arith)
 lane_room (suc (suc (suc (suc (suc (suc (suc (suc l)))))))) h = absurd (omega arith)
 
+-- where the code has them begin and end
+abbrev pub groups : List (ℕ × ℕ)
+groups = (26, 27) ∷ (20, 22) ∷ (22, 24) ∷ (8, 12) ∷ (24, 26) ∷ (12, 16) ∷ (16, 20) ∷ (0, 8) ∷ []
+
+pub group_at : (l : ℕ) → l < 8 → ((get_or groups l (0, 0)).0 ≡ begins l) × ((get_or groups l (0, 0)).1 ≡ begins l + counts l)
+group_at zero h = (refl, refl)
+group_at (suc zero) h = (refl, refl)
+group_at (suc (suc zero)) h = (refl, refl)
+group_at (suc (suc (suc zero))) h = (refl, refl)
+group_at (suc (suc (suc (suc zero)))) h = (refl, refl)
+group_at (suc (suc (suc (suc (suc zero))))) h = (refl, refl)
+group_at (suc (suc (suc (suc (suc (suc zero)))))) h = (refl, refl)
+group_at (suc (suc (suc (suc (suc (suc (suc zero))))))) h = (refl, refl)
+group_at (suc (suc (suc (suc (suc (suc (suc (suc l)))))))) h = absurd (omega arith)
+
 minus : (a b : ℕ) → a + b - a ≡ b
 minus a b = omega arith
 

@@ -10,37 +10,42 @@ ghost use Rattle.lanes.specs.Blocks.{begins, counts, least_with, parts_to, split
 use crate::lanes;
 use subsets::{square, subset};
 
-// Takes all steps of the subset of the high set h and the low sinks `low`, whose lanes stand from one place to another.
-fn fill_low(
-    ds: &[u32; 4096],
-    table: &mut [u32],
-    sums: &[u32; 28],
-    h: u32,
-    low: u32,
-    from: usize,
-    end: usize,
-)
-    requires { Next ds.now table.old sums.now h low × (low < 8) × (2 ≤ ones (8 * h + low)) × (from ≡ begins low) × (end ≡ begins low + counts low) }
+// Where the lanes that deal the low sinks of each number begin and end.
+const GROUPS: [(usize, usize); 8] = [
+    (26, 27),
+    (20, 22),
+    (22, 24),
+    (8, 12),
+    (24, 26),
+    (12, 16),
+    (16, 20),
+    (0, 8),
+];
+
+// Takes all steps of the subset of the high set h and the low sinks `low`.
+fn fill_low(ds: &[u32; 4096], table: &mut [u32], sums: &[u32; 28], h: u32, low: u32)
+    requires { Next ds.now table.old sums.now h low × (low < 8) × (2 ≤ ones (8 * h + low)) }
     ensures next { Next ds.now table.new sums.now h (low + 1) }
     ensures table_after { table.new ≡ foldl (step_of (held ds.now)) table.old (map (pair_up (8 * h + low)) (splits (8 * h + low))) }
 {
     let s = 8 * h + low;
+    let (from, end) = GROUPS[low as usize];
     let least = lanes::least_low(table, s, low, lanes::least_lane(sums, from, end));
     table[s as usize] = square::diameter(ds, s) + least;
 }
 
-// Takes all steps of the subsets of the high set h and one low sink or more.
+// Takes all steps of the subsets of the high set h and one low sink or more. One by one, for the compiler then knows each group: with `for low in 1..8` the search of 12 sinks takes 39 per cent longer.
 fn fill_lows(ds: &[u32; 4096], table: &mut [u32], sums: &[u32; 28], h: u32)
     requires { Next ds.now table.old sums.now h 1 }
     ensures { table.new ≡ foldl (step_of (held ds.now)) table.old (steps_of (rising 7 (8 * h + 1))) }
 {
-    fill_low(ds, table, sums, h, 1, 20, 22);
-    fill_low(ds, table, sums, h, 2, 22, 24);
-    fill_low(ds, table, sums, h, 3, 8, 12);
-    fill_low(ds, table, sums, h, 4, 24, 26);
-    fill_low(ds, table, sums, h, 5, 12, 16);
-    fill_low(ds, table, sums, h, 6, 16, 20);
-    fill_low(ds, table, sums, h, 7, 0, 8);
+    fill_low(ds, table, sums, h, 1);
+    fill_low(ds, table, sums, h, 2);
+    fill_low(ds, table, sums, h, 3);
+    fill_low(ds, table, sums, h, 4);
+    fill_low(ds, table, sums, h, 5);
+    fill_low(ds, table, sums, h, 6);
+    fill_low(ds, table, sums, h, 7);
 }
 
 // Takes all steps of the block of the high set h. A single sink has none.
@@ -48,10 +53,10 @@ fn fill_block(ds: &[u32; 4096], table: &mut [u32], rows: &[u32], h: u32)
     requires { Opened ds.now table.old rows.now h }
     ensures { table.new ≡ foldl (step_of (held ds.now)) table.old (steps_of (rising 8 (8 * h))) }
 {
-    let mut sums: [u32; 28] = [4294967295; 28];
+    let mut sums = [u32::MAX; 28];
     lanes::lane_sums(rows, h, &mut sums);
     if subset::beyond(h) != 0 {
-        fill_low(ds, table, &sums, h, 0, 26, 27);
+        fill_low(ds, table, &sums, h, 0);
     }
     fill_lows(ds, table, &sums, h);
 }

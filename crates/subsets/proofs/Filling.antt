@@ -155,25 +155,6 @@ module _ (δ : ℕ → ℕ) (n budget : ℕ) (t₀ : List ℕ) where
   pub fill_end : (s left : ℕ) (t : List ℕ) → 2 ^ n ≤ s → Filling δ n budget t₀ s left t → (budget - left ≡ min budget (length (steps n))) × (t ≡ foldl (step_of δ) t₀ (take budget (steps n)))
   fill_end s left t h i = (omega (arith, i.0, ap length (from_none n s h)), ap (foldl (step_of δ) t) (sym (take-nil left) ∙ ap (take left) (sym (from_none n s h))) ∙ i.1)
 
--- where the filling stands that counts nothing
-abbrev pub Filling-all : (ℕ → ℕ) → ℕ → List ℕ → ℕ → List ℕ → Type 0
-Filling-all δ n t₀ s t = foldl (step_of δ) t (from n s) ≡ foldl (step_of δ) t₀ (steps n)
-
-module _ (δ : ℕ → ℕ) (n : ℕ) (t₀ : List ℕ) where
-  pub all_start : Filling-all δ n t₀ 1 t₀
-  unfolding steps
-  all_start = refl
-
-  pub all_turn : (s : ℕ) (t t2 : List ℕ) → s < 2 ^ n → Filling-all δ n t₀ s t → t2 ≡ foldl (step_of δ) t (map (pair_up s) (splits s)) → Filling-all δ n t₀ (s + 1) t2
-  all_turn s t t2 h i e =
-      ap (λ (l : List ℕ). foldl (step_of δ) l (from n (s + 1))) e
-      ∙ sym (foldl-append (step_of δ) t (map (pair_up s) (splits s)) (from n (s + 1)))
-      ∙ ap (foldl (step_of δ) t) (sym (from_cons n s h))
-      ∙ i
-
-  pub all_end : (s : ℕ) (t : List ℕ) → 2 ^ n ≤ s → Filling-all δ n t₀ s t → t ≡ foldl (step_of δ) t₀ (steps n)
-  all_end s t h i = ap (foldl (step_of δ) t) (sym (from_none n s h)) ∙ i
-
 -- the blank table after the steps of a budget
 pub filled_is : (δ : ℕ → ℕ) (n budget : ℕ) (u t₀ t : List ℕ) → t₀ ≡ front (blanks n) u → t ≡ foldl (step_of δ) t₀ (take budget (steps n)) → t ≡ front (table_after δ n budget) u
 filled_is δ n budget u t₀ t e f = f ∙ ap (λ (l : List ℕ). foldl (step_of δ) l (take budget (steps n))) e ∙ after_front δ n budget u

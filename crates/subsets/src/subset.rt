@@ -13,7 +13,7 @@ pub fn first(s: u32) -> u32
     s.trailing_zeros()
 }
 
-// The subset s without its lowest sink. Of `first(s)` in place of the method the compiler makes two shifts, and the search takes 6 per cent longer.
+// The subset s without its lowest sink. With `first(s)` in place of the method the compiler makes shifts of it, and the table of 12 sinks takes 6 per cent longer split by split.
 pub fn beyond(s: u32) -> u32
     requires { 0 < s }
     ensures { result ≡ s - 2 ^ lowest s }

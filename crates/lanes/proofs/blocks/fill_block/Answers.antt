@@ -1,4 +1,4 @@
-use mathlib.Core.Path.{◌≡◌, refl, ◌∙◌}
+use mathlib.Core.Path.{◌≡◌, ◌∙◌}
 use mathlib.Core.List.{foldl, map}
 use Prim.Native.Nat.{◌+◌, ◌*◌}
 use native.Mathlib.Omega.{arith}
@@ -21,7 +21,7 @@ fill_low-requires c =
       block = p.block;
       lanes = lanes_start a.table.now a.rows.now (replicate 28 4294967295) s.new.sums a.h p.block.some s.array_long (λ k h. get_or-replicate 28 k 4294967295 0 h) p.dealt s.ensures;
     } in
-    (opened, omega arith, more_high a.h c.beyond.result p.block.some c.beyond.ensures (omega arith), refl, refl)
+    (opened, omega arith, more_high a.h c.beyond.result p.block.some c.beyond.ensures (omega arith))
 
 pub fill_lows-requires : goal.fill_lows-requires
 fill_lows-requires c =

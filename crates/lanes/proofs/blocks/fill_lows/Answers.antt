@@ -1,4 +1,4 @@
-use mathlib.Core.Path.{refl, ◌≡◌, ◌∙◌}
+use mathlib.Core.Path.{◌≡◌, ◌∙◌}
 use native.Mathlib.Omega.{arith}
 use Rattle.lanes.proofs.Opening.{more_low}
 use mathlib.Core.List.{foldl}
@@ -10,25 +10,25 @@ use Rattle.subsets.proofs.Runs.{run_one, run_snoc}
 use Rattle.lanes.proofs.blocks.fill_lows.Goals as goal
 
 pub fill_low-requires : goal.fill_low-requires
-fill_low-requires c = (c.requires, omega arith, more_low c.args.h 1 c.requires.block.some (omega arith) (omega arith), refl, refl)
+fill_low-requires c = (c.requires, omega arith, more_low c.args.h 1 c.requires.block.some (omega arith) (omega arith))
 
 pub fill_low-requires-2 : goal.fill_low-requires-2
-fill_low-requires-2 c = (c.fill_low.ensures.next, omega arith, more_low c.args.h 2 c.requires.block.some (omega arith) (omega arith), refl, refl)
+fill_low-requires-2 c = (c.fill_low.ensures.next, omega arith, more_low c.args.h 2 c.requires.block.some (omega arith) (omega arith))
 
 pub fill_low-requires-3 : goal.fill_low-requires-3
-fill_low-requires-3 c = (c.fill_low-2.ensures.next, omega arith, more_low c.args.h 3 c.requires.block.some (omega arith) (omega arith), refl, refl)
+fill_low-requires-3 c = (c.fill_low-2.ensures.next, omega arith, more_low c.args.h 3 c.requires.block.some (omega arith) (omega arith))
 
 pub fill_low-requires-4 : goal.fill_low-requires-4
-fill_low-requires-4 c = (c.fill_low-3.ensures.next, omega arith, more_low c.args.h 4 c.requires.block.some (omega arith) (omega arith), refl, refl)
+fill_low-requires-4 c = (c.fill_low-3.ensures.next, omega arith, more_low c.args.h 4 c.requires.block.some (omega arith) (omega arith))
 
 pub fill_low-requires-5 : goal.fill_low-requires-5
-fill_low-requires-5 c = (c.fill_low-4.ensures.next, omega arith, more_low c.args.h 5 c.requires.block.some (omega arith) (omega arith), refl, refl)
+fill_low-requires-5 c = (c.fill_low-4.ensures.next, omega arith, more_low c.args.h 5 c.requires.block.some (omega arith) (omega arith))
 
 pub fill_low-requires-6 : goal.fill_low-requires-6
-fill_low-requires-6 c = (c.fill_low-5.ensures.next, omega arith, more_low c.args.h 6 c.requires.block.some (omega arith) (omega arith), refl, refl)
+fill_low-requires-6 c = (c.fill_low-5.ensures.next, omega arith, more_low c.args.h 6 c.requires.block.some (omega arith) (omega arith))
 
 pub fill_low-requires-7 : goal.fill_low-requires-7
-fill_low-requires-7 c = (c.fill_low-6.ensures.next, omega arith, more_low c.args.h 7 c.requires.block.some (omega arith) (omega arith), refl, refl)
+fill_low-requires-7 c = (c.fill_low-6.ensures.next, omega arith, more_low c.args.h 7 c.requires.block.some (omega arith) (omega arith))
 
 pub returns : goal.returns
 returns c =
