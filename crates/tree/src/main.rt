@@ -31,6 +31,7 @@ fn answer<R: Read, W: Write>(reader: &mut R, writer: &mut W) -> io::Result<()>
 }
 
 // Reads until the buffer is full, the input ends or a read fails, and returns how many bytes stand at the buffer's front.
+// Of std's methods, `read_to_end` needs a heap, and `read_exact` does not say how much it read of an input that is shorter.
 fn read_full<R: Read>(reader: &mut R, buf: &mut [u8]) -> usize
     ensures within { result ≤ length buf.new }
     ensures none_lost { Consumes (R.remaining reader.old) (R.remaining reader.new) (take result buf.new) }
