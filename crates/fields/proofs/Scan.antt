@@ -8,10 +8,10 @@ use native.Mathlib.Omega.{arith}
 use borrow.Author.Tests.{lt-ltb, le-ltb, eqb-true, not-false}
 use Rattle.std.specs.Prelude.{Ok, Err}
 use lib.Dec.{eqb}
-use lib.ListN.{length, take, drop}
+use lib.ListN.{length}
 use Rattle.plane.specs.declared.refusal.Refusal.{Refusal}
 use Rattle.plane.specs.declared.refusal.Refusal.TheVariants.{Form}
-use Rattle.fields.specs.Form.{field_at, form_from, form, past, length_at, next_at, value_at, wrong_length, Formed}
+use Rattle.fields.specs.Form.{field_at, form_from, form, past, next_at, wrong_length, Formed}
 
 pub record Scan (f : List ℕ) (last at tag : ℕ) : Type 0 where
   pub low : 1 ≤ tag
@@ -68,8 +68,3 @@ formed_less {k} {f} j h g = record { header = λ t l. g.header t (omega arith); 
 pub formed_next : {k : ℕ} {f : List ℕ} (t : ℕ) → t < k → Formed k f → next_at f (past f t) ≤ length f
 unfolding past
 formed_next {k} {f} t h g = g.within t h
-
-pub value_part : (f : List ℕ) {at next p : ℕ} → at ≡ p → next ≡ next_at f at → take (next - (at + 3)) (drop (at + 3) f) ≡ value_at f p
-value_part f {at} {next} {p} e q =
-    let m : next - (at + 3) ≡ length_at f at = omega arith in
-    rw (m, e)

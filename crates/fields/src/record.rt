@@ -11,6 +11,7 @@ use crate::field;
 use crate::number::Number;
 use crate::tag::Tag;
 
+// Two lists beside each other: so the C interface hands the coordinates over (`skeprafter_write_sinks`).
 fn put_each_place(out: &mut [u8], at: usize, xs: &[i32], ys: &[i32])
     requires { (at + 8 * length xs.now ≤ length out.old) × (length xs.now ≡ length ys.now) }
     ensures { out.new ≡ sets out.old at (places xs.now ys.now) }

@@ -2,8 +2,7 @@
 use mathlib.Core.Path.{◌≡◌, refl, ap}
 use mathlib.Core.Bool.{true, false}
 use mathlib.Core.List.{List}
-use Prim.Native.Nat.{ℕ, ◌-◌, ◌*◌, ◌/◌, ◌≤◌, ◌<◌}
-use native.Mathlib.Omega.{arith}
+use Prim.Native.Nat.{ℕ, ◌-◌, ◌*◌, ◌≤◌, ◌<◌}
 use borrow.Author.Tests.{lt-ltb, le-ltb, eq-eqb, ne_eqb}
 use Rattle.std.specs.Prelude.{Ok, Err}
 use lib.IntN.{ℤ, pos, negsuc}
@@ -14,10 +13,7 @@ use Rattle.measures.specs.Range.{equal}
 use Rattle.plane.specs.Sinks.{sinks_at, prompt}
 use Rattle.plane.specs.declared.refusal.Refusal.TheVariants.{Tags, Unlike}
 use Rattle.orders.specs.Nodes.{places_u, places_v, wires}
-use Rattle.orders.specs.Sound.{Sound}
-use Rattle.fields.specs.Fields.{firsts, seconds, numbers_in}
 use Rattle.tree_files.specs.Trees.{unlike, check_nodes}
-use Rattle.fields.proofs.Values.{length_firsts, length_numbers_in}
 
 -- whole numbers that are one, and two
 pub equal_self : (a : ℤ) → equal a a ≡ true
@@ -60,11 +56,3 @@ module _ (xs ys : List ℤ) (js : List ℕ) where
 
   pub length_wires : length (wires (sinks_at xs ys (prompt xs)) js) ≡ 2 * length xs - 1
   length_wires = length-grow _ (2 * length xs - 1)
-
--- how long the values of checked sinks and joins are at most
-module _ (v w : List ℕ) (s : Sound (firsts v) (seconds v) (prompt (firsts v)) (numbers_in 2 w)) where
-  pub few_sinks : length v / 8 ≤ 512
-  few_sinks = omega (arith, length_firsts v, s.joins.few)
-
-  pub few_nodes : length w / 2 ≤ 1022
-  few_nodes = omega (arith, length_numbers_in 2 w, s.joins.few, s.joins.valid.count)

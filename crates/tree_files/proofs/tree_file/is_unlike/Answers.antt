@@ -14,7 +14,7 @@ pub returns-then-read-nodes : goal.returns-then-read-nodes
 returns-then-read-nodes c =
     let a = c.args in
     let n = length_firsts a.v4.now in
-    rw (first_in a.v4.now a.k (omega arith) ∙ sym c.read.ensures, equal_not _ _ (λ q. c.if-read-nodes.true (ap (of_z w32) q)))
+    rw (first_in a.v4.now a.k (omega arith) ∙ sym c.read.ensures, equal_not c.read.result (get_or a.nodes.us.now a.k (pos 0)) (λ q. c.if-read-nodes.true (ap (of_z w32) q)))
 
 pub read-requires-2 : goal.read-requires-2
 read-requires-2 c = let n = length_firsts c.args.v4.now in omega arith
@@ -28,7 +28,7 @@ returns-then-read-nodes-2 c =
       first_in a.v4.now a.k (omega arith) ∙ sym c.read.ensures ∙ e,
       equal_self (get_or a.nodes.us.now a.k (pos 0)),
       second_in a.v4.now a.k (omega arith) ∙ sym c.read-2.ensures,
-      equal_not _ _ (λ q. c.if-read-nodes-2.true (ap (of_z w32) q)),
+      equal_not c.read-2.result (get_or a.nodes.vs.now a.k (pos 0)) (λ q. c.if-read-nodes-2.true (ap (of_z w32) q)),
     )
 
 pub read-requires-3 : goal.read-requires-3
