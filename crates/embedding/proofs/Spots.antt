@@ -1,5 +1,5 @@
 -- The pass down: the places in the buffers, a node more from the root on; and those of the sinks.
-use mathlib.Core.Path.{◌≡◌, refl, sym, ap, subst, ◌∙◌}
+use mathlib.Core.Path.{◌≡◌, sym, ap, subst, ◌∙◌}
 use mathlib.Core.Logic.{⊎_elim}
 use mathlib.Core.List.{List, [], ◌∷◌}
 use Prim.Native.Nat.{ℕ, ◌+◌, ◌-◌, ◌*◌, ◌≤◌, ◌<◌, min, max}
@@ -94,9 +94,6 @@ module _ {n N : ℕ} {ns : Nodes N} where
         kept_v = λ k l. other_v w k (λ e. omega arith);
       }
 
-  pub down_again : {m : ℕ} {old-u old-v us vs : List ℤ} → PutsDown n ns m old-u old-v us vs → PutsDown n ns m us vs us vs
-  down_again w = record { spots = w.spots; kept_u = λ k h. refl; kept_v = λ k h. refl }
-
   pub down_more : {k : ℕ} {old-u old-v us vs us' vs' : List ℤ} (p : ℕ) → p ≡ get_or ns.parents (k - 1) 0 → 0 < k → k ≤ 2 * n - 2 → Rising n ns.parents → Fair (box_at ns.hulls (k - 1)) → Has us vs (k - 1) → PutsDown n ns k old-u old-v us vs
       → PutsSpot (k - 1) (nearest_of (box_at ns.hulls (k - 1)) (spot_at us vs p)) us vs us' vs' → PutsDown n ns (k - 1) old-u old-v us' vs'
   down_more {k} {old-u} {old-v} {us} {vs} {us'} {vs'} p z h g rise f has made w =
@@ -144,10 +141,6 @@ open_at k w a b h =
       size = w.sized k h;
     }
 
--- the buffers stay as long as they were
-pub still_room : {m a b l : ℕ} → m ≤ a → b ≡ a → l ≡ b → m ≤ l
-still_room h p q = omega arith
-
 -- the node before the one that the pass has come to, and its parent
 pub open_next : {n k p : ℕ} {N : ℕ} {ns : Nodes N} {us vs : List ℤ} → Sized n ns → 2 * n - 1 ≤ length us → 2 * n - 1 ≤ length vs → n < k → k ≤ 2 * n - 2 → p ≡ get_or ns.parents (k - 1) 0 → Spots n ns k us vs → Placeable (k - 1) ns us vs × Has us vs p × SpotHeld us vs p (spot_at us vs p)
 open_next {n} {k} {p} w a b h g e z =
@@ -193,9 +186,6 @@ flat {xs} {ys} {k} {b} p e =
     (c.fair, omega (arith, own_diam (sinks_at xs ys []) k b c))
 
 module _ {xs ys : List ℤ} where
-  pub sinks_begin : {us vs : List ℤ} → PutsSinks xs ys 0 us vs us vs
-  sinks_begin = record { own = λ k h. absurd (omega arith); kept_u = λ k h. refl; kept_v = λ k h. refl }
-
   pub sinks_more : {k : ℕ} {b : Box} {p : Spot} {old-u old-v us vs us' vs' : List ℤ} → Fair b → b ≡ sink_box (get_or xs k (pos 0)) (get_or ys k (pos 0)) 0 → p ≡ root_of b → Has us vs k → PutsSinks xs ys k old-u old-v us vs
       → PutsSpot k p us vs us' vs' → PutsSinks xs ys (k + 1) old-u old-v us' vs'
   sinks_more {k} {b} {p} {old-u} {old-v} {us} {vs} {us'} {vs'} f e g has made w =

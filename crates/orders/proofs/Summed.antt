@@ -14,13 +14,9 @@ use Rattle.orders.specs.declared.nodes.Nodes.{Nodes}
 use Rattle.orders.specs.Sound.{Sound}
 use Rattle.orders.specs.Nodes.{total}
 use Rattle.orders.specs.Table.{Sinked}
-use Rattle.orders.specs.Arrays.{NodeRoom, OwnRoom, PutsOwn, PutsJoins}
+use Rattle.orders.specs.Arrays.{PutsOwn, PutsJoins}
 use Rattle.orders.proofs.Upward.{joins_made}
 use Rattle.orders.proofs.Totals.{own_less, total_is}
-
--- ---- room
-pub own_room : {xs ys : List ℤ} {delays js : List ℕ} {N : ℕ} {ns : Nodes N} → Sound xs ys delays js → NodeRoom (length xs) ns → OwnRoom delays ns.diameters
-own_room s r = record { few = omega (arith, s.sinks.delayed, s.joins.few); brief = s.sinks.brief; room = omega (arith, s.sinks.delayed, s.joins.some, r.diameters, r.room) }
 
 -- ---- the sums, where the root's diameter is x
 module _ {xs ys : List ℤ} {delays js : List ℕ} {old : List Box} {own sum x : ℕ} {old-ds : List ℕ} {N : ℕ} {ns : Nodes N} (sound : Sound xs ys delays js) (put : Sinked xs ys delays (length xs) old) (o : PutsOwn delays (length delays) own old-ds) (w : PutsJoins (length xs) js (length xs - 1) old sum ns) (e : x ≡ get_or ns.diameters (2 * length xs - 2) 0) where

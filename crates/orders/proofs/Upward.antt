@@ -12,7 +12,7 @@ use lib.Seq.{get_or-set_same, get_or-set_other}
 use Rattle.lists.specs.Grow.{sum_to}
 use Rattle.lists.proofs.Grow.{each_more, sum_same, sum_more}
 use Rattle.zero_skew.specs.Plane.{Sinks}
-use Rattle.measures.specs.Boxes.{blank, hull_of, diam_of, InOrder, Fair}
+use Rattle.measures.specs.Boxes.{blank, hull_of, diam_of, Fair}
 use Rattle.plane.specs.Sinks.{sinks_at}
 use Rattle.measures.specs.Covers.{Covers}
 use Rattle.measures.proofs.Fairness.{fair-diam, fair-hull}
@@ -29,18 +29,6 @@ use Rattle.orders.proofs.Parents.{parents_more, parents_done}
 use Rattle.orders.proofs.Orders.{sinks_some, below_sink, below_join}
 
 -- ---- sinks
--- one sink's own diameter more
-pub own_begin : {delays ds : List ℕ} → PutsOwn delays 0 0 ds
-own_begin = record { own = λ k h. absurd (omega arith); sums = refl; low = omega arith }
-
-pub own_more : {delays : List ℕ} {k sum d : ℕ} {ds : List ℕ} → k < length ds → get_or delays k 0 ≤ 6000000 → d ≡ 2 * get_or delays k 0 → PutsOwn delays k sum ds → PutsOwn delays (k + 1) (sum + d) (set ds k d)
-own_more {delays} {k} {sum} {d} {ds} room l e w =
-    record {
-      own = each_more (λ (i : ℕ) (x : ℕ). x ≡ 2 * get_or delays i 0) ds k d 0 room e w.own;
-      sums = omega (arith, w.sums, sum_more (λ (i : ℕ). get_or delays i 0) k);
-      low = omega (arith, w.low);
-    }
-
 pub up_begin : {xs ys : List ℤ} {delays js : List ℕ} {N : ℕ} {ns : Nodes N} {sum : ℕ} → length xs ≡ length delays → NodeRoom (length xs) ns → PutsOwn delays (length delays) sum ns.diameters → Sinked xs ys delays (length xs) ns.hulls → Up (length xs) js 0 ns
 up_begin {xs} {ys} {delays} {js} {N} {ns} {sum} e room own w =
     record {
@@ -104,11 +92,6 @@ module _ {n : ℕ} {js : List ℕ} (o : Ordered n js) {i : ℕ} (h : i < n - 1) 
   is_new : {a b : ℕ} {c : Box} → a ≡ left js i → b ≡ right js i → c ≡ hull_of (box_at bs a) (box_at bs b) → c ≡ new
   is_new {a} {b} {c} p q r = r ∙ hull_same (ap (box_at bs) p) (ap (box_at bs) q)
 
-  pub new_order : {a b : ℕ} {c : Box} → a ≡ left js i → b ≡ right js i → c ≡ hull_of (box_at bs a) (box_at bs b) → InOrder c
-  new_order {a} {b} {c} p q r =
-      let f : Fair c = subst Fair (sym (is_new p q r)) new_fair in
-      (f.u_up, f.v_up)
-
   pub puts_join : {a b : ℕ} {c : Box} {d : ℕ} → a ≡ left js i → b ≡ right js i → c ≡ hull_of (box_at bs a) (box_at bs b) → d ≡ diam_of c
       → PutsJoin {N = N} n js i ns d (record { hulls = set bs (n + i) c; diameters = set ns.diameters (n + i) d; parents = set (set ns.parents a (n + i)) b (n + i) })
   puts_join {a} {b} {c} {d} p q r e =
@@ -120,9 +103,6 @@ module _ {n : ℕ} {js : List ℕ} (o : Ordered n js) {i : ℕ} (h : i < n - 1) 
       }
 
 -- ---- all joins
-pub joins_begin : {n : ℕ} {js : List ℕ} {N : ℕ} {ns : Nodes N} → Up n js 0 ns → PutsJoins n js 0 ns.hulls 0 ns
-joins_begin w = record { up = w; sinks = λ k h. refl; sums = refl; low = omega arith }
-
 pub joins_more : {n : ℕ} {js : List ℕ} {i : ℕ} {old : List Box} {sum : ℕ} {N : ℕ} {ns : Nodes N} {d : ℕ} {ns' : Nodes N}
     → i < n - 1 → PutsJoins n js i old sum ns → PutsJoin n js i ns d ns' → PutsJoins n js (i + 1) old (sum + d) ns'
 joins_more {n} {js} {i} {old} {sum} {N} {ns} {d} {ns'} h w p =
