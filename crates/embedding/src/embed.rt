@@ -46,15 +46,35 @@ pub fn embed_sound(sinks: &Sinks<'_>, js: &[u16], layout: &mut Layout<'_>) -> u3
     embed_with::<1023>(sinks, js, layout)
 }
 
+// The same, into three lists of the caller's own.
+pub fn embed_into(
+    sinks: &Sinks<'_>,
+    js: &[u16],
+    us: &mut [i32],
+    vs: &mut [i32],
+    ws: &mut [u32],
+) -> u32
+    requires { Ready sinks.now.xs.now sinks.now.ys.now sinks.now.delays.now js.now us.old vs.old ws.old }
+    ensures { Embeds sinks.now.xs.now sinks.now.ys.now sinks.now.delays.now js.now us.old vs.old ws.old result us.new vs.new ws.new }
+{
+    embed_sound(sinks, js, &mut Layout { us, vs, ws })
+}
+
 // The same of sinks that have no delay.
-pub fn embed_prompt(xs: &[i32], ys: &[i32], js: &[u16], layout: &mut Layout<'_>) -> u32
-    requires { Ready xs.now ys.now (prompt xs.now) js.now layout.old.us.now layout.old.vs.now layout.old.ws.now }
-    ensures same { SameLists layout.old layout.new }
-    ensures embeds { Embeds xs.now ys.now (prompt xs.now) js.now layout.old.us.now layout.old.vs.now layout.old.ws.now result layout.new.us.now layout.new.vs.now layout.new.ws.now }
+pub fn embed_prompt(
+    xs: &[i32],
+    ys: &[i32],
+    js: &[u16],
+    us: &mut [i32],
+    vs: &mut [i32],
+    ws: &mut [u32],
+) -> u32
+    requires { Ready xs.now ys.now (prompt xs.now) js.now us.old vs.old ws.old }
+    ensures { Embeds xs.now ys.now (prompt xs.now) js.now us.old vs.old ws.old result us.new vs.new ws.new }
 {
     let none = [0u32; 512];
     let delays = &none[..xs.len()];
-    embed_sound(&Sinks { xs, ys, delays }, js, layout)
+    embed_into(&Sinks { xs, ys, delays }, js, us, vs, ws)
 }
 
 // Refusals 1 to 4, 15, 6 and 7 in order, else the total, with the places and the wires in the layout.

@@ -8,7 +8,6 @@ ghost use Rattle.printing.specs.Program.{joins_of, lines_of, text_of};
 ghost use Rattle.text.specs.Written.{Writes};
 
 use embedding::embed;
-use embedding::layout::Layout;
 use house::sink_file;
 use lines::embedded::Embedded;
 use lines::{line, whole};
@@ -49,12 +48,7 @@ fn lines_in<const N: usize>(page: &mut Page, sinks: &Sinks<'_>)
     let mut us = [0i32; N];
     let mut vs = [0i32; N];
     let mut ws = [0u32; N];
-    let mut layout = Layout {
-        us: &mut us,
-        vs: &mut vs,
-        ws: &mut ws,
-    };
-    let total = embed::embed_sound(sinks, js, &mut layout);
+    let total = embed::embed_into(sinks, js, &mut us, &mut vs, &mut ws);
     let tree = Embedded {
         n,
         js,

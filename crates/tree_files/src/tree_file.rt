@@ -11,7 +11,6 @@ ghost use Rattle.house.specs.Reading.{xs_in, ys_in, joins_in, ReadsJoins};
 ghost use Rattle.tree_files.specs.Trees.{tree_file, unlike, check_nodes, check_tags, check_tree_file};
 
 use embedding::embed;
-use embedding::layout::Layout;
 use fields::number::Number;
 use fields::tag::Tag;
 use fields::{field, record};
@@ -48,12 +47,7 @@ fn put_tree(out: &mut [u8], xs: &[i32], ys: &[i32], js: &[u16]) -> usize
     let mut us = [0i32; 1023];
     let mut vs = [0i32; 1023];
     let mut ws = [0u32; 1023];
-    let mut layout = Layout {
-        us: &mut us,
-        vs: &mut vs,
-        ws: &mut ws,
-    };
-    embed::embed_prompt(xs, ys, js, &mut layout);
+    embed::embed_prompt(xs, ys, js, &mut us, &mut vs, &mut ws);
     let at = joined_file::put_joined(out, xs, ys, js);
     put_tags(
         out,
@@ -116,12 +110,7 @@ fn check_tags(xs: &[i32], ys: &[i32], js: &[u16], v4: &[u8], v5: &[u8]) -> Resul
     let mut us = [0i32; 1023];
     let mut vs = [0i32; 1023];
     let mut ws = [0u32; 1023];
-    let mut layout = Layout {
-        us: &mut us,
-        vs: &mut vs,
-        ws: &mut ws,
-    };
-    embed::embed_prompt(xs, ys, js, &mut layout);
+    embed::embed_prompt(xs, ys, js, &mut us, &mut vs, &mut ws);
     check_nodes(
         Nodes {
             us: &us[..m],

@@ -15,7 +15,7 @@ returns c =
     let s = sinks_at a.xs.now a.ys.now (prompt a.xs.now) in
     let js = a.js.now in
     let m = 2 * length a.xs.now - 1 in
-    let e = c.embed_prompt.ensures.embeds in
+    let e = c.embed_prompt.ensures in
     rw (
       front_part (places_u s js) (replicate 1023 (pos 0)) m e.writes_u (length_u a.xs.now a.ys.now js),
       front_part (places_v s js) (replicate 1023 (pos 0)) m e.writes_v (length_v a.xs.now a.ys.now js),
