@@ -65,7 +65,7 @@ fn node_line(page: &mut Page, t: &Embedded, ps: &[usize; 1023], k: usize)
 }
 
 // The lines of all nodes.
-pub fn node_lines(page: &mut Page, t: &Embedded, ps: &[usize; 1023])
+pub(crate) fn node_lines(page: &mut Page, t: &Embedded, ps: &[usize; 1023])
     requires tree { Grown t.now }
     requires parents { Parents t.now.n t.now.js.now ps.now }
     requires room { page.old.at + 45 * (2 * t.now.n - 1) ≤ length page.old.out.now }
