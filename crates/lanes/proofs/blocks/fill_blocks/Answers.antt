@@ -1,17 +1,8 @@
-use mathlib.Core.Path.{refl, ◌∙◌}
+use mathlib.Core.Path.{◌∙◌}
 use Prim.Native.Nat.{◌+◌, ◌*◌, ◌^◌, ◌≤◌}
 use native.Mathlib.Omega.{arith}
-use Rattle.lanes.proofs.Advancing.{advanced_end, advanced_opens, advanced_start, eight_blocks, advanced_more}
+use Rattle.lanes.proofs.Advancing.{advanced_end, advanced_opens, eight_blocks, advanced_more}
 use Rattle.lanes.proofs.blocks.fill_blocks.Goals as goal
-
-pub overflow_sub-n : goal.overflow_sub-n
-overflow_sub-n c = omega (arith, c.requires.0.many)
-
-pub subsets-size-requires : goal.subsets-size-requires
-subsets-size-requires c = omega (arith, c.requires.0.few)
-
-pub loop-h-init : goal.loop-h-init
-loop-h-init c = (c.subsets-size.ensures.1, refl, refl, advanced_start c.args.n c.args.ds.now c.args.table.now c.requires.0 c.args.rows.now c.requires.2)
 
 pub fill_block-requires : goal.fill_block-requires
 fill_block-requires c =
@@ -20,12 +11,6 @@ fill_block-requires c =
     let l = c.loop-h in
     let low : 8 * l.h + 8 ≤ 2 ^ a.n = omega (arith, eight_blocks a.n c.subsets-size.result p.0.many c.subsets-size.ensures.0) in
     advanced_opens a.n a.ds.now a.table.now p.0 l.h l.table l.rows l.invariant.1 low l.invariant.3 (omega (arith, p.1, l.invariant.2))
-
-pub shape_of-table : goal.shape_of-table
-shape_of-table c = c.loop-h.invariant.1
-
-pub shape_of-rows : goal.shape_of-rows
-shape_of-rows c = c.loop-h.invariant.2
 
 pub returns : goal.returns
 returns c =

@@ -1,5 +1,5 @@
 use native.Mathlib.Omega.{arith}
-use Rattle.lanes.proofs.Opening.{entry_fits, lane_room, entry_is, group_at, next_more}
+use Rattle.lanes.proofs.Opening.{entry_fits, entry_is, group_at, next_more}
 use mathlib.Core.Path.{◌≡◌}
 use mathlib.Core.List.{foldl, map}
 use Prim.Native.Nat.{◌+◌, ◌*◌}
@@ -8,12 +8,6 @@ use Rattle.subsets.specs.Square.{held}
 use Rattle.subsets.specs.Subsets.{splits}
 use Rattle.subsets.specs.Table.{pair_up, step_of}
 use Rattle.lanes.proofs.blocks.fill_low.Goals as goal
-
-pub least_lane-requires : goal.least_lane-requires
-least_lane-requires c =
-    let g = group_at c.args.low c.requires.1 in
-    let r = lane_room c.args.low c.requires.1 in
-    (omega (arith, g.0, g.1), omega (arith, g.1, r.1))
 
 pub overflow_add-table : goal.overflow_add-table
 overflow_add-table c =

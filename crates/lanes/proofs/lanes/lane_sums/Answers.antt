@@ -8,11 +8,6 @@ loop-other-init c =
     let o = c.of-other-items.ensures in
     rw c.into_iter-other-iterator.ensures.into_iter_gives (o.0 ∙ c.beyond.ensures, rw o.1 (lanewise_start c.told-sums c.requires.0 c.beyond.ensures))
 
-pub meet-requires : goal.meet-requires
-meet-requires c =
-    let s = c.in-Some.ensures.steps in
-    (omega arith, omega arith, c.requires.2)
-
 pub returns : goal.returns
 returns c = lanewise_end c.loop-other.invariant.1 c.in-None.ensures.steps
 

@@ -4,7 +4,6 @@ use lib.ListN.{get_or}
 use Rattle.lanes.specs.Blocks.{least_with}
 use Rattle.subsets.specs.Subsets.{rising}
 use Rattle.lanes.proofs.Filled.{lane_end, lane_turn}
-use mathlib.Core.Path.{refl}
 use Rattle.lanes.proofs.lanes.least_lane.Goals as goal
 
 pub loop-k-preserved : goal.loop-k-preserved
@@ -18,6 +17,3 @@ returns c =
     let a = c.args in
     let l = c.loop-k in
     lane_end a.sums.now a.end l.k l.least (least_with (λ (j : ℕ). get_or a.sums.now j 0) 4294967295 (rising (a.end - a.from) a.from)) (omega arith) l.invariant.2
-
-pub loop-k-init : goal.loop-k-init
-loop-k-init c = (omega arith, c.requires.0, refl)

@@ -1,36 +1,11 @@
-use mathlib.Core.Path.{◌≡◌, refl, ap, ◌∙◌}
-use Prim.Native.Nat.{ℕ, ◌+◌, ◌-◌, ◌≤◌, min}
-use native.Mathlib.Omega.{arith}
-use lib.Bits.{bit_and, and_self}
+use mathlib.Core.Path.{◌≡◌, ap, ◌∙◌}
+use Prim.Native.Nat.{ℕ, ◌+◌, ◌-◌, min}
+use lib.Bits.{bit_and}
 use lib.ListN.{get_or}
 use Rattle.lanes.specs.Blocks.{least_with, parts_to, split_off_lane}
-use Rattle.subsets.proofs.Digits.{sub_and, sub_le}
-use Rattle.lanes.proofs.Filled.{low_end, low_turn, within_small}
+use Rattle.subsets.proofs.Digits.{sub_and}
+use Rattle.lanes.proofs.Filled.{low_end, low_turn}
 use Rattle.lanes.proofs.lanes.least_low.Goals as goal
-
-pub loop-part-init : goal.loop-part-init
-loop-part-init c =
-    let o = c.of-part-items.ensures in
-    rw c.into_iter-part-iterator.ensures.into_iter_gives (o.0, rw o.1 (and_self c.args.low), rw o.1 refl)
-
-pub overflow_sub-met : goal.overflow_sub-met
-overflow_sub-met c =
-    let p = c.in-Some.ensures.steps in
-    omega (arith, c.requires, sub_le c.loop-part.part-iterator.next c.args.low c.loop-part.invariant.1)
-
-pub overflow_add-met : goal.overflow_add-met
-overflow_add-met c =
-    let a = c.args in
-    let p = c.requires in
-    let l = c.loop-part in
-    let k = c.in-Some.part in
-    let s = c.in-Some.ensures.steps in
-    let m : k ≤ a.low = omega (arith, sub_le l.part-iterator.next a.low l.invariant.1) in
-    omega (
-      arith,
-      within_small a.s a.table.now (a.s - k) p.4 (omega (arith, p.1)) (omega (arith, p.3)),
-      within_small a.s a.table.now k p.4 (omega (arith, p.0, p.1)) (omega (arith, p.0)),
-    )
 
 pub loop-part-preserved : goal.loop-part-preserved
 loop-part-preserved c =

@@ -1,10 +1,5 @@
-use native.Mathlib.Omega.{arith}
-use lib.ListN.{length-set}
 use Rattle.lanes.proofs.Deals.{lays_one}
 use Rattle.lanes.proofs.lanes.put.Goals as goal
-
-pub bounds-rows-at-2 : goal.bounds-rows-at-2
-bounds-rows-at-2 c = simp length-set (omega arith)
 
 pub returns : goal.returns
 returns c =

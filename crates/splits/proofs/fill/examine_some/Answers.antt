@@ -1,11 +1,8 @@
 use mathlib.Core.Path.{refl, ap, ◌∙◌}
 use mathlib.Core.Logic.{inl, inr}
-use Prim.Native.Nat.{ℕ, ◌<◌, ◌-◌, ◌+◌, ◌^◌}
+use Prim.Native.Nat.{ℕ, ◌-◌, ◌+◌}
 use native.Mathlib.Omega.{arith}
 use lib.ListN.{get_or}
-use Rattle.subsets.specs.Subsets.{lowest}
-use Rattle.subsets.proofs.Digits.{sub_le}
-use Rattle.subsets.proofs.Lowest.{beyond_lt}
 use Rattle.subsets.proofs.Scan.{scan_end, scan_start, scan_turn}
 use Rattle.splits.proofs.fill.examine_some.Goals as goal
 
@@ -18,12 +15,6 @@ loop-other-init c =
       o.0 ∙ c.beyond.ensures,
       rw o.1 (scan_start a.d a.table.now a.s c.requires.0 a.budget c.beyond.result (get_or a.table.now a.s 0) c.beyond.ensures refl),
     )
-
-pub cost-sum-requires : goal.cost-sum-requires
-cost-sum-requires c =
-    let s = c.in-Some.ensures.steps in
-    let h : c.in-Some.other < c.args.s = omega (arith, sub_le c.loop-other.other-iterator.next (c.args.s - 2 ^ lowest c.args.s) c.loop-other.invariant.2.0, beyond_lt c.args.s c.requires.0) in
-    (omega arith, omega arith, c.requires.2)
 
 pub returns-in-None : goal.returns-in-None
 returns-in-None c =

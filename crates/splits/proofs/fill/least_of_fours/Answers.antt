@@ -19,18 +19,6 @@ loop-other-init c =
     rw c.into_iter-other-iterator.ensures.into_iter_gives
     (o.0, rw o.1 (fours_start a.table.now a.s a.second a.third a.last c.requires.0 c.requires.1 c.three-least.result c.three-least.ensures.0 c.three-least.ensures.1))
 
-pub three-with-requires : goal.three-with-requires
-three-with-requires c =
-    let a = c.args in
-    rw c.in-Some.ensures.steps.1
-    (fours_inside a.table.now a.s a.second a.third a.last c.requires.0 c.requires.1 c.loop-other.other-iterator.next c.loop-other.invariant.1.0, c.requires.2)
-
-pub parts-requires : goal.parts-requires
-parts-requires c =
-    let a = c.args in
-    let s = c.in-Some.ensures.steps in
-    (omega (arith, fours_inside a.table.now a.s a.second a.third a.last c.requires.0 c.requires.1 c.loop-other.other-iterator.next c.loop-other.invariant.1.0), c.requires.2)
-
 pub loop-other-preserved : goal.loop-other-preserved
 loop-other-preserved c =
     let a = c.args in

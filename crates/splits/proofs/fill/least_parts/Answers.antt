@@ -3,14 +3,7 @@ use Prim.Native.Nat.{◌<◌}
 use native.Mathlib.Omega.{arith}
 use Rattle.lanes.specs.Sums.{apart, beyond}
 use Rattle.splits.proofs.Fours.{leading, one_split}
-use Rattle.subsets.proofs.Lowest.{beyond_lt}
 use Rattle.splits.proofs.fill.least_parts.Goals as goal
-
-pub beyond-more-requires : goal.beyond-more-requires
-beyond-more-requires c = c.requires.2
-
-pub parts-requires : goal.parts-requires
-parts-requires c = (omega (arith, c.requires.1, beyond_lt c.args.s c.requires.0), c.requires.3)
 
 pub returns-then-more-eq0 : goal.returns-then-more-eq0
 returns-then-more-eq0 c =
@@ -18,12 +11,6 @@ returns-then-more-eq0 c =
     let m : 0 < beyond a.s = omega (arith, c.requires.1, c.requires.2) in
     let e : beyond (beyond a.s) ≡ 0 = sym (c.beyond-more.ensures ∙ ap beyond c.requires.1) ∙ c.if-more-eq0.true in
     (c.parts.ensures.0, one_split a.table.now a.s c.parts.result c.requires.0 m e (c.parts.ensures.1 ∙ ap (apart a.table.now a.s) c.requires.1))
-
-pub overflow_sub-rest : goal.overflow_sub-rest
-overflow_sub-rest c = omega (arith, c.beyond-more.ensures)
-
-pub overflow_sub-more : goal.overflow_sub-more
-overflow_sub-more c = omega (arith, c.beyond-last.ensures)
 
 pub least_of_fours-requires : goal.least_of_fours-requires
 least_of_fours-requires c =
