@@ -8,7 +8,6 @@ use Rattle.std.specs.Prelude.{Ok, Err}
 use lib.Dec.{ltb}
 use lib.IntN.{ℤ}
 use lib.ListN.{length}
-use Rattle.lists.specs.Grow.{front}
 use Rattle.plane.specs.Refusals.{Checked}
 use Rattle.plane.specs.Said.{refused_by}
 use Rattle.plane.specs.Said.Said.{answered}
@@ -17,7 +16,6 @@ use Rattle.plane.specs.declared.refusal.Refusal.TheVariants.{TooMany, Room}
 use Rattle.plane.specs.Sinks.{prompt, check_places, check_sinks}
 use Rattle.plane.proofs.Checks.{passed, check_prompt}
 use Rattle.house.specs.Writing.{room_for, Writes}
-use Rattle.house.specs.Reading.{ReadsSinks}
 use Rattle.fields.specs.Code.{Put}
 use Rattle.fields.proofs.Stores.{sets_front}
 
@@ -32,14 +30,6 @@ module _ {checked : Checked} {file out : List ℕ} (fine : checked ≡ Ok tt) wh
   did_write {out'} {r} e p =
       let n : r ≡ length file = omega (arith, p.ends) in
       record { answers = rw (fine, e, n); writes = p.lies ∙ sets_front file out (roomy (length file) (length out) e) }
-
-module _ {fx fy xs ys : List ℤ} where
-  pub no_room_x : {r : Refusal} → room_for (length fx) (length xs) ≡ Err r → ReadsSinks (Ok tt) fx fy xs ys (refused_by r) xs ys
-  no_room_x {r} e = record { answers = rw e; writes_x = refl; writes_y = refl }
-
-  module _ (h : room_for (length fx) (length xs) ≡ Ok tt) where
-    pub sinks_read : {n : ℕ} {xs' ys' : List ℤ} → room_for (length fx) (length ys) ≡ Ok tt → n ≡ length fx → xs' ≡ front fx xs → ys' ≡ front fy ys → ReadsSinks (Ok tt) fx fy xs ys (answered n) xs' ys'
-    sinks_read {n} {xs'} {ys'} g e p q = record { answers = rw (h, g, e); writes_x = p; writes_y = q }
 
 -- over the limit, where the lists are alike
 pub too_many : (limit : ℕ) (xs ys : List ℤ) (n : ℕ) → length xs ≡ n → length ys ≡ n → limit < n → Err TooMany ≡ check_sinks limit xs ys (prompt xs)

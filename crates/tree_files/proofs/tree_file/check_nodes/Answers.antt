@@ -1,5 +1,5 @@
 use mathlib.Core.Path.{sym, ◌∙◌}
-use Rattle.lists.proofs.First.{seek_begin, seek_go, seek_stop, seek_end}
+use Rattle.lists.proofs.First.{seek_go, seek_stop, seek_end}
 use Rattle.fields.specs.Fields.{firsts, seconds, numbers_in}
 use Rattle.tree_files.proofs.TreeAnswers.{other_places, other_wires, node_unlike, nodes-alike}
 use Rattle.tree_files.proofs.tree_file.check_nodes.Goals as goal
@@ -13,9 +13,6 @@ pub returns-then-count-nodes : goal.returns-then-count-nodes
 returns-then-count-nodes c =
     let a = c.args in
     other_wires a.nodes.us.now a.nodes.vs.now a.nodes.ws.now (firsts a.v4.now) (seconds a.v4.now) (numbers_in 4 a.v5.now) (sym c.count_places.ensures ∙ c.if-count_places-nodes.false) (λ e. c.if-count-nodes.true (c.count.ensures ∙ e))
-
-pub loop-k-init : goal.loop-k-init
-loop-k-init c = seek_begin
 
 pub returns-then-is_unlike : goal.returns-then-is_unlike
 returns-then-is_unlike c =
