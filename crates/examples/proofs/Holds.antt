@@ -31,7 +31,7 @@ use Rattle.lines.specs.Brackets.{brackets}
 use Rattle.text.specs.Decimal.{digits, decimal, signed}
 use Rattle.lines.specs.Lines.{first_line, second_line, parent_field, node_line, node_lines, tree_text, refusal_line}
 use Rattle.printing.specs.Program as program
-use Rattle.plane.specs.declared.refusal.Checked.TheVariants.{Fine}
+use Rattle.std.specs.Prelude.{Ok}
 use Rattle.plane.proofs.Checks.{accepted}
 use Rattle.search.specs.declared.search.Found.{Found}
 use Rattle.search.proofs.OnePlace.{one_place_found}
@@ -61,7 +61,7 @@ ys = replicate 12 (negsuc 4)
 abbrev none : List ℕ
 none = replicate 12 0
 
-passed : check_sinks 12 xs ys none ≡ Fine
+passed : check_sinks 12 xs ys none ≡ Ok tt
 unfolding check_places check_sinks
 passed = refl
 

@@ -1,7 +1,7 @@
 -- Document 02, Q-7: rows of the table for pins with their own delay, and for refusal 15. Each is worked out by hand beside it.
 use Rattle.std.specs.Prelude.{true, false, List, [], ◌∷◌, ◌++◌, pos, negsuc, replicate}
 use Rattle.plane.specs.Said.Said.{answered, refused}
-use Rattle.plane.specs.declared.refusal.Place.TheVariants.{None, At}
+use Rattle.std.specs.Prelude.{None, Some}
 use Rattle.examples.specs.Calls.Call.{box, widen, embed, join, search}
 use Rattle.examples.specs.Calls.Outcome.{boxed, widened, embedded, joined, searched}
 use Rattle.examples.specs.Example.{Row}
@@ -65,42 +65,42 @@ delayed =
     -- 15: 1,000,001 is not, at the lowest such sink
     ∷ record {
       call = embed (pos 0 ∷ pos 1 ∷ pos 2 ∷ []) (pos 0 ∷ pos 0 ∷ pos 0 ∷ []) (0 ∷ 1000001 ∷ 1000001 ∷ []) (0 ∷ 1 ∷ 3 ∷ 2 ∷ []) 7;
-      gives = embedded (refused 15 (At 1)) [] [] [];
+      gives = embedded (refused 15 (Some 1)) [] [] [];
     }
     -- and for the box of all sinks
     ∷ record {
       call = box (pos 0 ∷ pos 1 ∷ []) (pos 0 ∷ pos 0 ∷ []) (0 ∷ 1000001 ∷ []);
-      gives = boxed (refused 15 (At 1));
+      gives = boxed (refused 15 (Some 1));
     }
     -- and for a held box and one more sink, at place 0
     ∷ record {
       call = widen (record { least_u = pos 0; greatest_u = pos 5; least_v = pos 0; greatest_v = pos 1 }) (pos 0) (pos 0) 1000001;
-      gives = widened (refused 15 (At 0)) (record { least_u = pos 0; greatest_u = pos 5; least_v = pos 0; greatest_v = pos 1 });
+      gives = widened (refused 15 (Some 0)) (record { least_u = pos 0; greatest_u = pos 5; least_v = pos 0; greatest_v = pos 1 });
     }
     -- 4 before 15, though at a higher sink
     ∷ record {
       call = embed (pos 0 ∷ pos 1 ∷ []) (pos 0 ∷ pos 1000001 ∷ []) (1000001 ∷ 5 ∷ []) (0 ∷ 1 ∷ []) 7;
-      gives = embedded (refused 4 (At 1)) [] [] [];
+      gives = embedded (refused 4 (Some 1)) [] [] [];
     }
     -- and at the same
     ∷ record {
       call = embed (pos 1000001 ∷ []) (pos 0 ∷ []) (1000001 ∷ []) [] 7;
-      gives = embedded (refused 4 (At 0)) [] [] [];
+      gives = embedded (refused 4 (Some 0)) [] [] [];
     }
     -- 15 before 6
     ∷ record {
       call = embed (pos 0 ∷ pos 1 ∷ []) (pos 0 ∷ pos 0 ∷ []) (5 ∷ 1000001 ∷ []) (0 ∷ 0 ∷ []) 7;
-      gives = embedded (refused 15 (At 1)) [] [] [];
+      gives = embedded (refused 15 (Some 1)) [] [] [];
     }
     -- 15 before 7
     ∷ record {
       call = embed (pos 0 ∷ pos 1 ∷ []) (pos 0 ∷ pos 0 ∷ []) (5 ∷ 1000001 ∷ []) (0 ∷ 1 ∷ []) 0;
-      gives = embedded (refused 15 (At 1)) [] [] [];
+      gives = embedded (refused 15 (Some 1)) [] [] [];
     }
     -- 15 in the search, of twelve sinks
     ∷ record {
       call = search (replicate 12 (pos 0)) (replicate 12 (pos 0)) (replicate 11 0 ++ (4294967295 ∷ [])) 9 4096;
-      gives = searched (refused 15 (At 11)) [] [] [] [] [];
+      gives = searched (refused 15 (Some 11)) [] [] [] [] [];
     }
     -- 1: too few delays
     ∷ record {

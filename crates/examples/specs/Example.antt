@@ -2,11 +2,11 @@
 use Rattle.std.specs.Prelude.{List, [], ℕ, ◌-◌, ℤ, pos, length, get_or}
 use Rattle.zero_skew.specs.Plane.{Sinks, quarters, away}
 use Rattle.zero_skew.specs.Box.{Bounds, across}
-use Rattle.plane.specs.Said.{Said, if_answered, told_check}
+use Rattle.plane.specs.Said.{Said, after, if_answered}
 use Rattle.plane.specs.Said.Said.{answered, refused}
 use Rattle.plane.specs.Sinks.{sinks_at, check_sinks, prompt}
 use Rattle.plane.specs.Bounds.{box_answer, verdict, widened_by}
-use Rattle.plane.specs.declared.refusal.Checked.{Checked}
+use Rattle.plane.specs.Refusals.{Checked}
 use Rattle.orders.specs.Joins.{check_order}
 use Rattle.orders.specs.Nodes as nodes
 use Rattle.orders.specs.Nodes.{places_u, places_v, wires, parent}
@@ -69,9 +69,9 @@ reading checked xs ys js room = read_said (joins_answer checked xs js room room 
 -- what the definitions say of a call
 unfoldable pub outcome : Call → Outcome
 outcome (box xs ys delays) = boxed (with_diameter (box_answer xs ys delays))
-outcome (widen held x y delay) = widened (told_check (verdict x y delay)) (widened_by held x y delay)
+outcome (widen held x y delay) = widened (after (verdict x y delay) tt) (widened_by held x y delay)
 outcome (embed xs ys delays js room) = tree_said (answer xs ys delays js room room room) (sinks_at xs ys delays) js
-outcome (join xs ys delays room) = order_said (told_check (check_nearest xs ys delays room)) (order_at xs ys delays)
+outcome (join xs ys delays room) = order_said (after (check_nearest xs ys delays room) tt) (order_at xs ys delays)
 outcome (embed_nearest xs ys delays room) = built_said (tree_answer xs ys delays room room room room) (sinks_at xs ys delays) (order_at xs ys delays)
 outcome (search xs ys delays budget table) =
     found_said (search_says xs ys delays budget table) (sinks_at xs ys delays) (table_of (sinks_at xs ys delays) budget) (joins_found (sinks_at xs ys delays) budget)

@@ -1,7 +1,7 @@
 -- Further rows: house files as bytes, written and read, and refusal 9 by number.
 use Rattle.std.specs.Prelude.{List, [], ◌∷◌, ◌++◌, ℕ, pos, negsuc}
 use Rattle.plane.specs.Said.Said.{answered, refused}
-use Rattle.plane.specs.declared.refusal.Place.TheVariants.{None, At}
+use Rattle.std.specs.Prelude.{None, Some}
 use Rattle.examples.specs.Calls.Call.{write_sinks, write_joined, write_tree, read_sinks, read_joined, read_tree}
 use Rattle.examples.specs.Calls.Outcome.{wrote, got}
 use Rattle.examples.specs.Example.{Row}
@@ -47,7 +47,7 @@ files =
     -- 6: a pair of one node
     ∷ record {
       call = write_tree (pos 0 ∷ pos 4 ∷ []) (pos 0 ∷ pos 0 ∷ []) (1 ∷ 1 ∷ []) 72;
-      gives = wrote (refused 6 (At 0)) [];
+      gives = wrote (refused 6 (Some 0)) [];
     }
     -- case D, read
     ∷ record {
@@ -72,7 +72,7 @@ files =
     -- 9: another wire at node 1
     ∷ record {
       call = read_tree (joined_p3 ++ (places_p3 ++ (5 ∷ 0 ∷ 12 ∷ 0 ∷ 0 ∷ 0 ∷ 4 ∷ 0 ∷ 0 ∷ 0 ∷ 5 ∷ 0 ∷ 0 ∷ 0 ∷ 0 ∷ []))) 2;
-      gives = got (refused 9 (At 1)) [] [] [];
+      gives = got (refused 9 (Some 1)) [] [] [];
     }
     -- 9: a wire too few
     ∷ record {
@@ -82,7 +82,7 @@ files =
     -- 9 before 7
     ∷ record {
       call = read_tree (joined_p3 ++ (places_p3 ++ (5 ∷ 0 ∷ 12 ∷ 0 ∷ 0 ∷ 0 ∷ 4 ∷ 0 ∷ 0 ∷ 0 ∷ 5 ∷ 0 ∷ 0 ∷ 0 ∷ 0 ∷ []))) 1;
-      gives = got (refused 9 (At 1)) [] [] [];
+      gives = got (refused 9 (Some 1)) [] [] [];
     }
     -- 7: a buffer one too short
     ∷ record {
@@ -92,6 +92,6 @@ files =
     -- 6: the pair names node 2, its own
     ∷ record {
       call = read_joined (1 ∷ 0 ∷ 1 ∷ 1 ∷ 2 ∷ 0 ∷ 16 ∷ 0 ∷ 0 ∷ 0 ∷ 0 ∷ 0 ∷ 0 ∷ 0 ∷ 0 ∷ 0 ∷ 0 ∷ 0 ∷ 4 ∷ 0 ∷ 0 ∷ 0 ∷ 0 ∷ 3 ∷ 0 ∷ 4 ∷ 0 ∷ 0 ∷ 0 ∷ 2 ∷ []) 2;
-      gives = got (refused 6 (At 0)) [] [] [];
+      gives = got (refused 6 (Some 0)) [] [] [];
     }
     ∷ []

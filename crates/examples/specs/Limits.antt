@@ -1,7 +1,7 @@
 -- Document 01, "Table of checked examples": P11 and P12, in its words, each by the calls that take sinks.
 use Rattle.std.specs.Prelude.{true, false, List, [], ◌∷◌, pos, negsuc}
 use Rattle.plane.specs.Said.Said.{answered, refused}
-use Rattle.plane.specs.declared.refusal.Place.TheVariants.{None, At}
+use Rattle.std.specs.Prelude.{None, Some}
 use Rattle.examples.specs.Calls.Call.{box, widen, embed, embed_nearest, join, search, say, steps, write_sinks}
 use Rattle.examples.specs.Calls.Outcome.{boxed, widened, embedded, built, joined, searched, told, counted, wrote}
 use Rattle.examples.specs.Example.{Row}
@@ -16,7 +16,7 @@ limits =
     -- at place 0, the number of the sink
     ∷ record {
       call = embed (pos 1000001 ∷ []) (pos 0 ∷ []) (0 ∷ []) [] 7;
-      gives = embedded (refused 4 (At 0)) [] [] [];
+      gives = embedded (refused 4 (Some 0)) [] [] [];
     }
     -- x = -1,000,000
     ∷ record {
@@ -26,7 +26,7 @@ limits =
     -- and one less
     ∷ record {
       call = embed (negsuc 1000000 ∷ []) (pos 0 ∷ []) (0 ∷ []) [] 7;
-      gives = embedded (refused 4 (At 0)) [] [] [];
+      gives = embedded (refused 4 (Some 0)) [] [] [];
     }
     -- y = 1,000,000
     ∷ record {
@@ -36,7 +36,7 @@ limits =
     -- and one more, of sink 1
     ∷ record {
       call = embed (pos 0 ∷ pos 0 ∷ []) (pos 1000000 ∷ pos 1000001 ∷ []) (0 ∷ 0 ∷ []) (0 ∷ 1 ∷ []) 7;
-      gives = embedded (refused 4 (At 1)) [] [] [];
+      gives = embedded (refused 4 (Some 1)) [] [] [];
     }
     -- y = -1,000,000
     ∷ record {
@@ -46,7 +46,7 @@ limits =
     -- and one less: of two such sinks, the lowest
     ∷ record {
       call = embed (pos 0 ∷ pos 0 ∷ pos 1000001 ∷ []) (pos 0 ∷ negsuc 1000000 ∷ pos 0 ∷ []) (0 ∷ 0 ∷ 0 ∷ []) (0 ∷ 1 ∷ 3 ∷ 2 ∷ []) 7;
-      gives = embedded (refused 4 (At 1)) [] [] [];
+      gives = embedded (refused 4 (Some 1)) [] [] [];
     }
     -- for the search
     ∷ record {
@@ -56,7 +56,7 @@ limits =
     -- and 1,000,001
     ∷ record {
       call = search (pos 1000001 ∷ []) (pos 0 ∷ []) (0 ∷ []) 0 2;
-      gives = searched (refused 4 (At 0)) [] [] [] [] [];
+      gives = searched (refused 4 (Some 0)) [] [] [] [] [];
     }
     -- for joining
     ∷ record {
@@ -66,7 +66,7 @@ limits =
     -- and 1,000,001
     ∷ record {
       call = join (pos 0 ∷ pos 1000001 ∷ []) (pos 0 ∷ pos 0 ∷ []) (0 ∷ 0 ∷ []) 6;
-      gives = joined (refused 4 (At 1)) [];
+      gives = joined (refused 4 (Some 1)) [];
     }
     -- for both at once
     ∷ record {
@@ -76,7 +76,7 @@ limits =
     -- and 1,000,001
     ∷ record {
       call = embed_nearest (pos 0 ∷ pos 1000001 ∷ []) (pos 0 ∷ pos 0 ∷ []) (0 ∷ 0 ∷ []) 3;
-      gives = built (refused 4 (At 1)) [] [] [] [];
+      gives = built (refused 4 (Some 1)) [] [] [] [];
     }
     -- for the box of all sinks
     ∷ record {
@@ -86,7 +86,7 @@ limits =
     -- and 1,000,001
     ∷ record {
       call = box (pos 0 ∷ pos 1000001 ∷ []) (pos 0 ∷ pos 0 ∷ []) (0 ∷ 0 ∷ []);
-      gives = boxed (refused 4 (At 1));
+      gives = boxed (refused 4 (Some 1));
     }
     -- for a held box and one more sink
     ∷ record {
@@ -96,12 +96,12 @@ limits =
     -- "refused with 4, place 0, and the held box stays as it is"
     ∷ record {
       call = widen (record { least_u = pos 0; greatest_u = pos 5; least_v = pos 0; greatest_v = pos 1 }) (pos 0) (pos 1000001) 0;
-      gives = widened (refused 4 (At 0)) (record { least_u = pos 0; greatest_u = pos 5; least_v = pos 0; greatest_v = pos 1 });
+      gives = widened (refused 4 (Some 0)) (record { least_u = pos 0; greatest_u = pos 5; least_v = pos 0; greatest_v = pos 1 });
     }
     -- for a file
     ∷ record {
       call = write_sinks (pos 1000001 ∷ []) (pos 0 ∷ []) 15;
-      gives = wrote (refused 4 (At 0)) [];
+      gives = wrote (refused 4 (Some 0)) [];
     }
     -- P12: "12 sinks accepted for the search": twelve in a row, x from 0 to 11. By least diameter six pairs of d 1, three of d 3, then 7 and 11; total 6·1 + 3·3 + 7 + 11 + 11
     ∷ record {

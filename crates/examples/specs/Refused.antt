@@ -1,7 +1,7 @@
 -- Further rows: refusals 1, 3, 6 and 7 by number. 2 stands under P1, 4 under P11, 8 in Texts, 9 in Files, 15 in Delays.
 use Rattle.std.specs.Prelude.{List, [], ◌∷◌, pos, replicate}
 use Rattle.plane.specs.Said.Said.{refused}
-use Rattle.plane.specs.declared.refusal.Place.TheVariants.{None, At}
+use Rattle.std.specs.Prelude.{None, Some}
 use Rattle.examples.specs.Calls.Call.{embed, embed_nearest, join, search}
 use Rattle.examples.specs.Calls.Outcome.{embedded, built, joined, searched}
 use Rattle.examples.specs.Example.{Row}
@@ -26,7 +26,7 @@ refusals =
     -- 512 are not over: the next refusal is 6, for no pair is given
     ∷ record {
       call = embed (replicate 512 (pos 0)) (replicate 512 (pos 0)) (replicate 512 0) [] 7;
-      gives = embedded (refused 6 (At 0)) [] [] [];
+      gives = embedded (refused 6 (Some 0)) [] [] [];
     }
     -- for joining
     ∷ record {
@@ -41,32 +41,32 @@ refusals =
     -- 6: half a pair
     ∷ record {
       call = embed (pos 0 ∷ pos 4 ∷ []) (pos 0 ∷ pos 0 ∷ []) (0 ∷ 0 ∷ []) (0 ∷ 1 ∷ 0 ∷ []) 7;
-      gives = embedded (refused 6 (At 1)) [] [] [];
+      gives = embedded (refused 6 (Some 1)) [] [] [];
     }
     -- 6: too few pairs
     ∷ record {
       call = embed (pos 0 ∷ pos 2 ∷ pos 10 ∷ []) (pos 0 ∷ pos 0 ∷ pos 0 ∷ []) (0 ∷ 0 ∷ 0 ∷ []) (0 ∷ 1 ∷ []) 7;
-      gives = embedded (refused 6 (At 1)) [] [] [];
+      gives = embedded (refused 6 (Some 1)) [] [] [];
     }
     -- 6: too many pairs
     ∷ record {
       call = embed (pos 0 ∷ pos 4 ∷ []) (pos 0 ∷ pos 0 ∷ []) (0 ∷ 0 ∷ []) (0 ∷ 1 ∷ 0 ∷ 1 ∷ []) 7;
-      gives = embedded (refused 6 (At 1)) [] [] [];
+      gives = embedded (refused 6 (Some 1)) [] [] [];
     }
     -- 6: a node named again
     ∷ record {
       call = embed (pos 0 ∷ pos 2 ∷ pos 10 ∷ []) (pos 0 ∷ pos 0 ∷ pos 0 ∷ []) (0 ∷ 0 ∷ 0 ∷ []) (0 ∷ 1 ∷ 0 ∷ 2 ∷ []) 7;
-      gives = embedded (refused 6 (At 1)) [] [] [];
+      gives = embedded (refused 6 (Some 1)) [] [] [];
     }
     -- 6: a node that is not lower
     ∷ record {
       call = embed (pos 0 ∷ pos 2 ∷ pos 10 ∷ []) (pos 0 ∷ pos 0 ∷ pos 0 ∷ []) (0 ∷ 0 ∷ 0 ∷ []) (0 ∷ 3 ∷ 1 ∷ 2 ∷ []) 7;
-      gives = embedded (refused 6 (At 0)) [] [] [];
+      gives = embedded (refused 6 (Some 0)) [] [] [];
     }
     -- 6: a node twice in a pair
     ∷ record {
       call = embed (pos 0 ∷ pos 2 ∷ pos 10 ∷ []) (pos 0 ∷ pos 0 ∷ pos 0 ∷ []) (0 ∷ 0 ∷ 0 ∷ []) (1 ∷ 1 ∷ 3 ∷ 2 ∷ []) 7;
-      gives = embedded (refused 6 (At 0)) [] [] [];
+      gives = embedded (refused 6 (Some 0)) [] [] [];
     }
     -- 7: a buffer one too short
     ∷ record {
@@ -91,11 +91,11 @@ refusals =
     -- 6 before 7
     ∷ record {
       call = embed (pos 0 ∷ pos 4 ∷ []) (pos 0 ∷ pos 0 ∷ []) (0 ∷ 0 ∷ []) (1 ∷ 1 ∷ []) 2;
-      gives = embedded (refused 6 (At 0)) [] [] [];
+      gives = embedded (refused 6 (Some 0)) [] [] [];
     }
     -- 4 before 6
     ∷ record {
       call = embed (pos 0 ∷ pos 1000001 ∷ []) (pos 0 ∷ pos 0 ∷ []) (0 ∷ 0 ∷ []) (1 ∷ 1 ∷ []) 7;
-      gives = embedded (refused 4 (At 1)) [] [] [];
+      gives = embedded (refused 4 (Some 1)) [] [] [];
     }
     ∷ []

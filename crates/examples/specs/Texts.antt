@@ -1,7 +1,7 @@
 -- Further rows: refusal 8 by number, and what the program prints.
 use Rattle.std.specs.Prelude.{List, [], ◌∷◌}
 use Rattle.plane.specs.Said.Said.{refused}
-use Rattle.plane.specs.declared.refusal.Place.TheVariants.{None, At}
+use Rattle.std.specs.Prelude.{None, Some}
 use Rattle.examples.specs.Calls.Call.{read_sinks, read_joined, print}
 use Rattle.examples.specs.Calls.Outcome.{got, printed}
 use Rattle.examples.specs.Example.{Row}
@@ -12,52 +12,52 @@ texts =
     -- 8: case D, read as a joined file, ends before tag 3
     record {
       call = read_joined case_d 7;
-      gives = got (refused 8 (At 39)) [] [] [];
+      gives = got (refused 8 (Some 39)) [] [] [];
     }
     -- 8: P3's joined file, read as a sink file, goes on
     ∷ record {
       call = read_sinks joined_p3 7;
-      gives = got (refused 8 (At 23)) [] [] [];
+      gives = got (refused 8 (Some 23)) [] [] [];
     }
     -- 8: an empty file
     ∷ record {
       call = read_sinks [] 7;
-      gives = got (refused 8 (At 0)) [] [] [];
+      gives = got (refused 8 (Some 0)) [] [] [];
     }
     -- 8: a value past the end
     ∷ record {
       call = read_sinks (1 ∷ 0 ∷ 1 ∷ []) 7;
-      gives = got (refused 8 (At 0)) [] [] [];
+      gives = got (refused 8 (Some 0)) [] [] [];
     }
     -- 8: a file that ends inside a length
     ∷ record {
       call = read_sinks (1 ∷ 0 ∷ []) 7;
-      gives = got (refused 8 (At 2)) [] [] [];
+      gives = got (refused 8 (Some 2)) [] [] [];
     }
     -- 8: a wrong tag, though the file ends there
     ∷ record {
       call = read_sinks (2 ∷ []) 7;
-      gives = got (refused 8 (At 0)) [] [] [];
+      gives = got (refused 8 (Some 0)) [] [] [];
     }
     -- 8: another version
     ∷ record {
       call = read_sinks (1 ∷ 0 ∷ 1 ∷ 2 ∷ []) 7;
-      gives = got (refused 8 (At 0)) [] [] [];
+      gives = got (refused 8 (Some 0)) [] [] [];
     }
     -- 8: no tag 2
     ∷ record {
       call = read_sinks (1 ∷ 0 ∷ 1 ∷ 1 ∷ []) 7;
-      gives = got (refused 8 (At 4)) [] [] [];
+      gives = got (refused 8 (Some 4)) [] [] [];
     }
     -- 8: tag 3 for tag 2
     ∷ record {
       call = read_sinks (1 ∷ 0 ∷ 1 ∷ 1 ∷ 3 ∷ []) 7;
-      gives = got (refused 8 (At 4)) [] [] [];
+      gives = got (refused 8 (Some 4)) [] [] [];
     }
     -- 8: no multiple of 8
     ∷ record {
       call = read_sinks (1 ∷ 0 ∷ 1 ∷ 1 ∷ 2 ∷ 0 ∷ 4 ∷ 0 ∷ 0 ∷ 0 ∷ 0 ∷ []) 7;
-      gives = got (refused 8 (At 4)) [] [] [];
+      gives = got (refused 8 (Some 4)) [] [] [];
     }
     -- 2: a tag 2 of length 0 is of the form
     ∷ record {
@@ -67,7 +67,7 @@ texts =
     -- 8: the first byte too many
     ∷ record {
       call = read_sinks (1 ∷ 0 ∷ 1 ∷ 1 ∷ 2 ∷ 0 ∷ 0 ∷ 3 ∷ []) 7;
-      gives = got (refused 8 (At 7)) [] [] [];
+      gives = got (refused 8 (Some 7)) [] [] [];
     }
     -- case D, what the program prints
     ∷ record {

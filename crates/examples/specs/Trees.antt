@@ -1,7 +1,7 @@
 -- Document 01, "Table of checked examples": P1 to P10, in its words.
 use Rattle.std.specs.Prelude.{true, false, List, [], ◌∷◌, pos, negsuc}
 use Rattle.plane.specs.Said.Said.{answered, refused}
-use Rattle.plane.specs.declared.refusal.Place.TheVariants.{None}
+use Rattle.std.specs.Prelude.{None}
 use Rattle.examples.specs.Calls.Call.{box, embed, join, search, node, wire}
 use Rattle.examples.specs.Calls.Outcome.{boxed, embedded, joined, searched, stands, snakes}
 use Rattle.examples.specs.Example.{Row}
