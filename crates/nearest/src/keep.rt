@@ -7,8 +7,8 @@ ghost use Rattle.partners.specs.Rows.{row_at, skip_both, Right, Seated, Entered,
 
 use measures::boxes::Box;
 use partners::best::Choice;
-use partners::pair::Near;
 use partners::live;
+use partners::pair::Near;
 use partners::rows::Rows;
 
 // Node m with box b comes after k rows that were held against it. The last of them had no later node, so this one is its partner, whatever it kept.
