@@ -8,7 +8,6 @@ use native.Mathlib.Omega.{arith}
 use borrow.Author.Tests.{eqb-true, eqb-false}
 use lib.Dec.{eqb}
 use lib.ListN.{length, get_or}
-use Rattle.lists.proofs.First.{first_end, first_hit, first_none}
 use Rattle.lists.proofs.Tests.{or_lt}
 use Rattle.measures.specs.Boxes.{InOrder}
 use Rattle.measures.specs.declared.boxes.Box.{Box}
@@ -19,7 +18,7 @@ use Rattle.partners.specs.Rule.In.{hit, next}
 use Rattle.partners.specs.Boxes.{Upright, reach}
 use Rattle.partners.specs.Live.{Below, Rising}
 use Rattle.partners.specs.declared.rows.Rows.{Rows}
-use Rattle.partners.specs.Rows.{Row, row_at, span, given, Lowest, NearestAfter, Right, place_of}
+use Rattle.partners.specs.Rows.{Row, row_at, span, given, Lowest, NearestAfter, Right}
 use Rattle.partners.proofs.Members.{all_at, all_in, rising_at, rising_up}
 use Rattle.partners.proofs.Ruled.{best_chosen, only_chosen}
 use Rattle.partners.proofs.Entering.{Fits, right_fits, fits_right, fits_as, span_is}

@@ -38,5 +38,9 @@ pub fn place(live: &[usize], x: usize) -> Option<usize>
             hi = mid;
         }
     }
-    if lo < live.len() && live[lo] == x { Some(lo) } else { None }
+    if lo < live.len() && live[lo] == x {
+        Some(lo)
+    } else {
+        None
+    }
 }

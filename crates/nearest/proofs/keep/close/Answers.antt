@@ -1,13 +1,10 @@
 use mathlib.Core.Path.{refl, ◌∙◌}
 use Prim.Native.Nat.{◌-◌}
 use native.Mathlib.Omega.{arith}
-use lib.ListN.{length, length-set}
+use lib.ListN.{length}
 use lib.Seq.{get_or-set_same, get_or-set_other}
 use Rattle.partners.proofs.Moving.{both_left}
 use Rattle.nearest.proofs.keep.close.Goals as goal
-
-pub shape_of-live : goal.shape_of-live
-shape_of-live c = length-set c.up-2.new.live (length c.args.live.now - 2) c.args.m ∙ c.up-2.auto.live ∙ c.up.auto.live
 
 pub returns : goal.returns
 returns c =

@@ -9,6 +9,12 @@ use Rattle.partners.proofs.Placing.{missing, hit_at}
 use Rattle.partners.proofs.Ending.{gone_less}
 use Rattle.partners.proofs.best.nearest.Goals as goal
 
+pub partner-q-requires : goal.partner-q-requires
+partner-q-requires c =
+    let o = c.requires in
+    let w = c.lowest-row.ensures.one in
+    (omega arith, o.few, row_in_order c.lowest-row.result o.upright o.low (c.rows.invariant o.top o.low o.right) (omega arith))
+
 pub give-requires : goal.give-requires
 give-requires c =
     let o = c.requires in

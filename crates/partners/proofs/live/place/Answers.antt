@@ -4,6 +4,9 @@ use Rattle.partners.proofs.Halving.{halves_begin, halves_more, halves_less, halv
 use Rattle.partners.proofs.live.place.Goals.{else-lo-live-via-then-lo-live+else-live-lo, else-lo-live-via-else-lo-live}
 use Rattle.partners.proofs.live.place.Goals as goal
 
+pub loop-lo-init : goal.loop-lo-init
+loop-lo-init c = halves_begin c.args.live.now c.args.x
+
 pub loop-lo-preserved-then-live-mid : goal.loop-lo-preserved-then-live-mid
 loop-lo-preserved-then-live-mid c = let l = c.loop-lo in halves_more (l.lo + (l.hi - l.lo) / 2) c.requires l.invariant (omega arith) c.if-live-mid.true
 
