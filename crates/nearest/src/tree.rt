@@ -11,7 +11,7 @@ use plane::refusal::Refusal;
 use plane::sinks::Sinks;
 
 // The joins, the places and the wires, and the total, where the sinks were checked and the buffers have room.
-fn tree_sound(sinks: &Sinks<'_>, js: &mut [u16], layout: &mut Layout<'_>) -> u32
+pub fn tree_sound(sinks: &Sinks<'_>, js: &mut [u16], layout: &mut Layout<'_>) -> u32
     requires { CanBuildIn sinks.now js.old layout.old }
     ensures same { SameLists layout.old layout.new }
     ensures builds { TreesIn sinks.now js.old layout.old result js.new layout.new }

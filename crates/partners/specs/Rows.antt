@@ -1,7 +1,7 @@
 -- For the code alone: what is kept beside each live node, packed as they are.
 use Rattle.std.specs.Prelude.{◌≡◌, cond, List, Option, ℕ, suc, ◌+◌, ◌-◌, ◌≤◌, ◌<◌, ltb, eqb, length, get_or, position}
 use Rattle.measures.specs.Measures.{kept_as}
-use Rattle.measures.specs.Boxes.{hull_of, diam_of}
+use Rattle.measures.specs.Boxes.{hull_of, diam_of, blank}
 use Rattle.measures.specs.declared.boxes.Box.{Box}
 use Rattle.partners.specs.declared.pair.Near.{Near}
 use Rattle.partners.specs.declared.pair.Pair.{Pair}
@@ -26,6 +26,10 @@ row_at rows t =
       far = get_or rows.far t 0;
       at = get_or rows.partner t 0;
     }
+
+-- every row is blank
+abbrev pub AllBlank : Rows → Type 0
+AllBlank rows = (t : ℕ) → t < 512 → row_at rows t ≡ record { box = blank; far = 0; at = 0 }
 
 -- the diameter of a row's union with a box
 unfoldable pub span : Row → Box → ℕ

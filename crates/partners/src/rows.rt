@@ -1,7 +1,7 @@
 // What is kept beside each live node, packed as they are.
 ghost use Rattle.std.specs.Prelude.{◌≡◌, ◌+◌, ◌≤◌, ◌<◌};
 ghost use Rattle.measures.specs.Boxes.{InOrder};
-ghost use Rattle.partners.specs.Rows.{row_at, span, given, held, Sets, Holds, Spans, NewBox, RowsUp};
+ghost use Rattle.partners.specs.Rows.{AllBlank, row_at, span, given, held, Sets, Holds, Spans, NewBox, RowsUp};
 
 use crate::pair::Near;
 use measures::boxes::Box;
@@ -22,7 +22,9 @@ pub struct Rows {
 
 impl Rows {
     // No row is kept yet.
-    pub fn blank() -> Rows {
+    pub fn blank() -> Rows
+        ensures { AllBlank result }
+    {
         Rows {
             low_u: [measure::CORNER; 512],
             high_u: [measure::CORNER; 512],

@@ -51,7 +51,7 @@ pub fn search_joins(sinks: &Sinks<'_>, budget: u64, table: &mut [u32], js: &mut 
 }
 
 // The search, where the sinks were checked and the buffers have room.
-fn search_sound(
+pub fn search_sound(
     sinks: &Sinks<'_>,
     budget: u64,
     table: &mut [u32],
