@@ -1,4 +1,4 @@
--- For the code alone: a layout that is written is lent in the same three lists.
+-- What a call writes, it writes into the lists that it was lent: the layout after it has the same three references.
 use Rattle.std.specs.Prelude.{◌≡◌}
 use Rattle.embedding.specs.declared.layout.Layout.{Layout}
 

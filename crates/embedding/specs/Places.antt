@@ -44,7 +44,7 @@ Has us vs k = (k < length us) × (k < length vs)
 -- node k's box and diameter can be read, and its place can be written
 pub record Placeable {N : ℕ} (k : ℕ) (ns : Nodes N) (us vs : List ℤ) : Type 0 where
   pub inside : k < N
-  pub fits : N ≤ 1023
+  pub fits : N < 4294967296
   pub has : Has us vs k
   pub fair : Fair (box_at ns.hulls k)
   pub size : get_or ns.diameters k 0 ≡ diam_of (box_at ns.hulls k)

@@ -29,13 +29,13 @@ Parents n js ps = (k : ℕ) → k < 2 * n - 2 → get_or ps k 0 ≡ parent n js 
 abbrev pub Rising : ℕ → List ℕ → Type 0
 Rising n ps = (k : ℕ) → k < 2 * n - 2 → (k < get_or ps k 0) × (get_or ps k 0 ≤ 2 * n - 2)
 
--- N nodes in each array: room for those of n sinks, and no more than for those of 512
+-- N nodes in each array: room for those of n sinks, and no more than a memory holds
 pub record NodeRoom {N : ℕ} (n : ℕ) (ns : Nodes N) : Type 0 where
   pub boxes : length ns.hulls ≡ N
   pub diameters : length ns.diameters ≡ N
   pub parents : length ns.parents ≡ N
   pub room : 2 * n - 1 ≤ N
-  pub fits : N ≤ 1023
+  pub fits : N < 4294967296
 
 -- delays that the code's numbers hold, and room for twice each
 pub record OwnRoom (delays ds : List ℕ) : Type 0 where

@@ -11,7 +11,7 @@ use measures::boxes::Box;
 use plane::sinks::Sinks;
 
 // What is kept of N nodes, by their number: the box of the sinks below, its diameter, and the parent.
-// One array for each part: in an array of structs, embedding takes a tenth longer.
+// One array for each part: with an array of structs the loops of embedding took up to a tenth longer (tried in a sketch of them).
 #[derive(Drop)]
 pub struct Nodes<const N: usize> {
     pub hulls: [Box; N],

@@ -4,6 +4,7 @@ ghost use Rattle.plane.specs.Sinks.{Fit, count};
 ghost use Rattle.orders.specs.Table.{SinkedBy};
 
 use measures::boxes::Box;
+use plane::sinks;
 use plane::sinks::Sinks;
 
 // The boxes of all sinks.
@@ -12,6 +13,6 @@ pub fn put_sinks(sinks: &Sinks<'_>, bs: &mut [Box])
     ensures { SinkedBy sinks.now bs.new }
 {
     for i in 0..sinks.xs.len() {
-        bs[i] = sinks.box_at(i);
+        bs[i] = sinks::box_at(sinks, i);
     }
 }

@@ -53,9 +53,9 @@ fn box_sound(sinks: &Sinks<'_>) -> Box
     requires { Fit sinks.now × (0 < count sinks.now) }
     ensures { Covers (sinks_in sinks.now) (up_to (count sinks.now)) result }
 {
-    let mut b = sinks.box_at(0);
+    let mut b = sinks::box_at(sinks, 0);
     for i in 1..sinks.xs.len() {
-        b = boxes::hull(b, sinks.box_at(i));
+        b = boxes::hull(b, sinks::box_at(sinks, i));
     }
     b
 }

@@ -96,12 +96,12 @@ impl Sinks<'_> {
         }
         Ok(())
     }
+}
 
-    // The box of sink i.
-    pub fn box_at(&self, i: usize) -> Box
-        requires { Fit self.now × (i < count self.now) }
-        ensures { Covers (sinks_in self.now) (i ∷ []) result }
-    {
-        boxes::sink_box(self.xs[i], self.ys[i], self.delays[i])
-    }
+// The box of sink i.
+pub fn box_at(sinks: &Sinks<'_>, i: usize) -> Box
+    requires { Fit sinks.now × (i < count sinks.now) }
+    ensures { Covers (sinks_in sinks.now) (i ∷ []) result }
+{
+    boxes::sink_box(sinks.xs[i], sinks.ys[i], sinks.delays[i])
 }
