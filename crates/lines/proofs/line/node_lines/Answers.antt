@@ -12,4 +12,4 @@ pub loop-k-preserved : goal.loop-k-preserved
 loop-k-preserved c =
     let w = c.node_line.ensures in
     let l = c.loop-k in
-    (line_next c.args.t.now l.k l.invariant.0 w.writes, omega (arith, w.within, l.invariant.1))
+    (line_next c.args.t.now c.args.ps.now l.k l.invariant.0 w.writes, omega (arith, w.within, l.invariant.1))
