@@ -62,6 +62,7 @@ fn node_line(page: &mut Page, t: &Embedded, ps: &[usize], k: usize)
 }
 
 // The lines of all nodes.
+#[tactic(auto, using(crate::proofs::Fields::line_next), unfolding(crate::specs::Lines::node_lines))]
 pub fn node_lines(page: &mut Page, t: &Embedded, ps: &[usize])
     requires tall { Tall t.now ps.now }
     requires room { page.old.at + 45 * (2 * t.now.n - 1) ≤ length page.old.out.now }
