@@ -6,8 +6,8 @@ use native.Mathlib.Numerals.{add-one}
 use borrow.Author.Tests.{eq-eqb, ne_eqb}
 use lib.ListN.{get_or}
 use Rattle.text.specs.Decimal.{blank, decimal, minus}
-use Rattle.lines.specs.Lines.{line, refused, place_field, refusal_line, parent_field, node_lines}
-use Rattle.lines.specs.Parts.{place_end, line_of, lines_to}
+use Rattle.lines.specs.Lines.{line, refused, place_field, refusal_line, parent_field, node_line, node_lines}
+use Rattle.lines.specs.Parts.{place_end}
 use Rattle.lines.specs.declared.embedded.Embedded.{Embedded}
 use Rattle.plane.specs.Refusals.{number, place}
 use Rattle.plane.specs.declared.refusal.Refusal.{Refusal}
@@ -34,9 +34,8 @@ unfolding refusal_line
 refusal_parts r = place_parts (decimal (number r)) (place r)
 
 -- ---- the lines of the nodes, one after the other
-pub lines_more : (t : Embedded) (k : ℕ) → lines_to t (k + 1) ≡ lines_to t k ++ line_of t k
+pub line_next : {old mid new : Page} (t : Embedded) (ps : List ℕ) (k : ℕ)
+    → Writes (node_lines t.n ps t.us.now t.vs.now t.ws.now k) old mid → Writes (node_line t.n ps t.us.now t.vs.now t.ws.now k) mid new
+    → Writes (node_lines t.n ps t.us.now t.vs.now t.ws.now (k + 1)) old new
 unfolding node_lines
-lines_more t k = rw add-one
-
-pub line_next : {old mid new : Page} (t : Embedded) (k : ℕ) → Writes (lines_to t k) old mid → Writes (line_of t k) mid new → Writes (lines_to t (k + 1)) old new
-line_next t k w x = rw (lines_more t k) (then w x)
+line_next t ps k w x = rw add-one (then w x)

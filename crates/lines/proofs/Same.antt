@@ -2,7 +2,7 @@
 use mathlib.Core.Path.{◌≡◌, refl, sym, ◌∙◌}
 use mathlib.Core.Bool.{Bool, true, false}
 use mathlib.Core.List.{List}
-use Prim.Native.Nat.{ℕ, zero, suc, ◌-◌, ◌*◌, ◌<◌, ◌≤◌}
+use Prim.Native.Nat.{ℕ, zero, suc, ◌-◌, ◌*◌, ◌<◌}
 use native.Mathlib.Omega.{arith}
 use borrow.Author.Tests.{eqb-true, eqb-false}
 use lib.Dec.{eqb}
@@ -13,9 +13,8 @@ use Rattle.orders.specs.Arrays.{Parents}
 use Rattle.orders.specs.Nodes.{parent}
 use Rattle.orders.specs.Sound.{Ordered}
 use Rattle.orders.proofs.Parents.{parent_above}
-use Rattle.text.specs.Decimal.{decimal}
-use Rattle.lines.proofs.Size.{node_figures}
 use Rattle.lines.specs.Lines.{parents, parent_field, node_line, node_lines}
+use Rattle.lines.specs.Parts.{ParentsUp}
 use Rattle.lines.proofs.Fields.{field-root, field_other}
 
 -- below m the lists have the same entries; the root's parent does not matter
@@ -46,10 +45,23 @@ module _ (n : ℕ) (ps ps' : List ℕ) (us us' vs vs' : List ℤ) (ws ws' : List
       let h : m < suc m = omega arith in
       rw (e, s.same_u m h, s.same_v m h, s.same_w m h, field_same m (s.same_p m h))
 
--- the parents that the code has worked out
-pub parent_at : (n : ℕ) (js ps : List ℕ) → Parents n js ps → (k : ℕ) → k < 2 * n - 2 → get_or ps k 0 ≡ get_or (parents n js) k 0
-parent_at n js ps p k l = p k l ∙ sym (get_d_tab (parent n js) (2 * n - 2) k 0 l)
+-- the parents that the code has worked out give the lines of those of the pairs
+pub lines_with : (n : ℕ) (js ps : List ℕ) (us vs : List ℤ) (ws : List ℕ) → Parents n js ps
+    → node_lines n (parents n js) us vs ws (2 * n - 1) ≡ node_lines n ps us vs ws (2 * n - 1)
+lines_with n js ps us vs ws p =
+    lines_same n (parents n js) ps us us vs vs ws ws (2 * n - 1) record {
+      same_p = λ k h e. let l : k < 2 * n - 2 = omega (arith, e) in get_d_tab (parent n js) (2 * n - 2) k 0 l ∙ sym (p k l);
+      same_u = λ k h. refl;
+      same_v = λ k h. refl;
+      same_w = λ k h. refl;
+    }
 
--- no parent's number has more than four figures
-pub parent_figures : (n : ℕ) (js ps : List ℕ) (k : ℕ) → Ordered n js → Parents n js ps → k < 2 * n - 2 → length (decimal (get_or ps k 0)) ≤ 4
-parent_figures n js ps k o p h = rw (p k h) (node_figures (parent n js k) (omega (arith, (parent_above n js o k h).1, o.few)))
+-- and are in range, in the list of 1,023 that they are worked out into
+pub parents_up : {n : ℕ} {js ps : List ℕ} → Ordered n js → Parents n js ps → length ps ≡ 1023 → ParentsUp n ps
+parents_up {n} {js} o p e =
+    record {
+      some = o.some;
+      few = o.few;
+      tall_p = omega (arith, o.few, e);
+      low_p = λ k h. rw (p k h) (parent_above n js o k h).1;
+    }

@@ -5,7 +5,7 @@ use mathlib.Core.List.{List, [], ◌∷◌, ◌++◌}
 use Prim.Native.Nat.{ℕ, zero, suc, ◌+◌, ◌-◌, ◌*◌, ◌^◌, ◌≤◌, ◌<◌}
 use native.Mathlib.Omega.{arith}
 use lib.IntN.{ℤ}
-use lib.ListN.{length, length-append}
+use lib.ListN.{length, get_or, length-append}
 use mir.Facts.{to_z-of_z}
 use mir.Syntax.{w32}
 use mir.Val.{SFits, to_z, of_z}
@@ -19,6 +19,7 @@ use Rattle.text.specs.Decimal.{blank, decimal, signed}
 use Rattle.text.proofs.Decimal.{decimal-length, signed-length}
 use Rattle.lines.specs.Brackets.{brackets}
 use Rattle.lines.specs.Lines.{feed, mark, first_line, second_line}
+use Rattle.lines.specs.Parts.{ParentsUp}
 use Rattle.lines.proofs.Children.{around, sink_text}
 
 -- ---- how many figures a node's number, a wire and a place of a refusal have
@@ -30,6 +31,9 @@ wire_figures w h = decimal-length 10 w (omega arith) (omega arith) (omega arith)
 
 pub place_figures : (i : ℕ) → i < 2 ^ 64 → length (decimal i) ≤ 20
 place_figures i h = decimal-length 20 i (omega arith) (omega arith) h
+
+pub parent_figures : (n : ℕ) (ps : List ℕ) (k : ℕ) → ParentsUp n ps → k < 2 * n - 2 → length (decimal (get_or ps k 0)) ≤ 4
+parent_figures n ps k p h = node_figures (get_or ps k 0) (omega (arith, p.low_p k h, p.few))
 
 -- as a coordinate is read from a list of the code
 pub coordinate_figures : (x : ℤ) → SFits w32 x → length (signed (to_z w32 (of_z w32 x))) ≤ 11

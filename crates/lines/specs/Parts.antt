@@ -1,11 +1,25 @@
 -- For the code alone: what the lines of the nodes are written from, and the end of a refusal.
-use Rattle.std.specs.Prelude.{Bool, List, [], ◌∷◌, ◌++◌, ℕ, ◌-◌, ◌*◌, ◌≤◌, ◌<◌, ℤ, length, Option, Some, None}
+use Rattle.std.specs.Prelude.{Bool, List, [], ◌∷◌, ◌++◌, ℕ, ◌-◌, ◌*◌, ◌≤◌, ◌<◌, ℤ, length, get_or, Option, Some, None}
 use Rattle.orders.specs.Sound.{Ordered}
 use Rattle.plane.specs.Sinks.{Ranged}
 use Rattle.plane.specs.declared.sinks.Sinks as lent
 use Rattle.text.specs.Decimal.{decimal, blank}
-use Rattle.lines.specs.Lines.{feed, parents, parent_field, node_line, node_lines, tree_text}
+use Rattle.lines.specs.Lines.{feed, parent_field, tree_text}
 use Rattle.lines.specs.declared.embedded.Embedded.{Embedded}
+
+-- the parents of n sinks' nodes, in a list with an entry for each node
+pub record ParentsUp (n : ℕ) (ps : List ℕ) : Type 0 where
+  pub some : 0 < n
+  pub few : n ≤ 512
+  pub tall_p : 2 * n - 1 ≤ length ps
+  pub low_p : (k : ℕ) → k < 2 * n - 2 → get_or ps k 0 ≤ 2 * n - 2
+
+-- and U, V and wires likewise
+pub record Tall (t : Embedded) (ps : List ℕ) : Type 0 where
+  pub up : ParentsUp t.n ps
+  pub tall_u : 2 * t.n - 1 ≤ length t.us.now
+  pub tall_v : 2 * t.n - 1 ≤ length t.vs.now
+  pub tall_w : 2 * t.n - 1 ≤ length t.ws.now
 
 -- a joining order of n sinks, and places and wires for its nodes
 pub record Grown (t : Embedded) : Type 0 where
@@ -14,19 +28,13 @@ pub record Grown (t : Embedded) : Type 0 where
   pub tall_v : 2 * t.n - 1 ≤ length t.vs.now
   pub tall_w : 2 * t.n - 1 ≤ length t.ws.now
 
--- the lines of a tree, and those of its nodes, from what the code holds
+-- the lines of a tree, from what the code holds
 abbrev pub text_with : Embedded → Bool → List ℕ
 text_with t isProven = tree_text t.n t.total isProven t.js.now t.us.now t.vs.now t.ws.now
 
-abbrev pub line_of : Embedded → ℕ → List ℕ
-line_of t k = node_line t.n (parents t.n t.js.now) t.us.now t.vs.now t.ws.now k
-
-abbrev pub lines_to : Embedded → ℕ → List ℕ
-lines_to t m = node_lines t.n (parents t.n t.js.now) t.us.now t.vs.now t.ws.now m
-
 -- the last field of a node's line
-abbrev pub from_parent : Embedded → ℕ → List ℕ
-from_parent t k = blank ∷ parent_field t.n (parents t.n t.js.now) k ++ (feed ∷ [])
+abbrev pub from_parent : ℕ → List ℕ → ℕ → List ℕ
+from_parent n ps k = blank ∷ parent_field n ps k ++ (feed ∷ [])
 
 -- the last field of a refusal, if any, and the line feed
 abbrev pub place_end : Option ℕ → List ℕ

@@ -1,8 +1,7 @@
 // The lines: line 1, the line of each node, and a refusal.
 ghost use Rattle.std.specs.Prelude.{◌≡◌, [], ◌∷◌, ◌++◌, ◌+◌, ◌-◌, ◌*◌, ◌≤◌, ◌<◌, length};
-ghost use Rattle.orders.specs.Arrays.{Parents};
-ghost use Rattle.lines.specs.Lines.{feed, mark, first_line, refusal_line, too_long};
-ghost use Rattle.lines.specs.Parts.{Grown, from_parent, line_of, lines_to, place_end};
+ghost use Rattle.lines.specs.Lines.{feed, mark, first_line, node_line, node_lines, refusal_line, too_long};
+ghost use Rattle.lines.specs.Parts.{ParentsUp, Tall, from_parent, place_end};
 ghost use Rattle.text.specs.Decimal.{blank};
 ghost use Rattle.text.specs.Written.{Room, Writes};
 
@@ -31,16 +30,15 @@ pub fn first_line(page: &mut Page, n: usize, total: u32, proven: bool)
 }
 
 // The last field of a node's line: its parent, and - for the root.
-#[tactic(auto, using(crate::proofs::Same::parent_figures))]
-fn parent_field(page: &mut Page, t: &Embedded, ps: &[usize; 1023], k: usize)
-    requires tree { Grown t.now }
-    requires parents { Parents t.now.n t.now.js.now ps.now }
-    requires node { k < 2 * t.now.n - 1 }
+#[tactic(auto, using(crate::proofs::Size::parent_figures))]
+fn parent_field(page: &mut Page, n: usize, ps: &[usize], k: usize)
+    requires parents { ParentsUp n ps.now }
+    requires node { k < 2 * n - 1 }
     requires room { page.old.at + 6 ≤ length page.old.out.now }
-    ensures writes { Writes (from_parent t.now k) page.old page.new }
+    ensures writes { Writes (from_parent n ps.now k) page.old page.new }
     ensures within { page.new.at ≤ page.old.at + 6 }
 {
-    if k == 2 * t.n - 2 {
+    if k == 2 * n - 2 {
         return page.word(b" -\n");
     }
     page.next(ps[k]);
@@ -49,27 +47,26 @@ fn parent_field(page: &mut Page, t: &Embedded, ps: &[usize; 1023], k: usize)
 
 // The line of node k, of at most 45 bytes.
 #[tactic(auto, using(crate::proofs::Size::figures))]
-fn node_line(page: &mut Page, t: &Embedded, ps: &[usize; 1023], k: usize)
-    requires tree { Grown t.now }
-    requires parents { Parents t.now.n t.now.js.now ps.now }
+fn node_line(page: &mut Page, t: &Embedded, ps: &[usize], k: usize)
+    requires tall { Tall t.now ps.now }
     requires node { k < 2 * t.now.n - 1 }
     requires room { page.old.at + 45 ≤ length page.old.out.now }
-    ensures writes { Writes (line_of t.now k) page.old page.new }
+    ensures writes { Writes (node_line t.now.n ps.now t.now.us.now t.now.vs.now t.now.ws.now k) page.old page.new }
     ensures within { page.new.at ≤ page.old.at + 45 }
 {
     page.number(k);
     page.next(t.us[k]);
     page.next(t.vs[k]);
     page.next(t.ws[k]);
-    parent_field(page, t, ps, k);
+    parent_field(page, t.n, ps, k);
 }
 
 // The lines of all nodes.
-pub(crate) fn node_lines(page: &mut Page, t: &Embedded, ps: &[usize; 1023])
-    requires tree { Grown t.now }
-    requires parents { Parents t.now.n t.now.js.now ps.now }
+#[tactic(auto, using(crate::proofs::Fields::line_next), unfolding(crate::specs::Lines::node_lines))]
+pub fn node_lines(page: &mut Page, t: &Embedded, ps: &[usize])
+    requires tall { Tall t.now ps.now }
     requires room { page.old.at + 45 * (2 * t.now.n - 1) ≤ length page.old.out.now }
-    ensures writes { Writes (lines_to t.now (2 * t.now.n - 1)) page.old page.new }
+    ensures writes { Writes (node_lines t.now.n ps.now t.now.us.now t.now.vs.now t.now.ws.now (2 * t.now.n - 1)) page.old page.new }
     ensures within { page.new.at ≤ page.old.at + 45 * (2 * t.now.n - 1) }
 {
     for k in 0..2 * t.n - 1 {

@@ -9,7 +9,7 @@ use orders::nodes;
 use text::page::Page;
 
 // The lines of a tree, on a page with room for every answer.
-#[tactic(auto, using(crate::proofs::Size::first_lines))]
+#[tactic(auto, using(crate::proofs::Size::first_lines, crate::proofs::Same::parents_up))]
 pub fn tree_text(page: &mut Page, t: &Embedded, proven: bool)
     requires tree { Grown t.now }
     requires room { page.old.at + 49152 ≤ length page.old.out.now }
