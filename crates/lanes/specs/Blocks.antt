@@ -1,5 +1,5 @@
 -- For the code alone: subsets in blocks of eight, which differ in the three lowest sinks. The splits of a block are examined together: the 27 ways to deal three sinks to the first part, the second part and neither are its lanes.
-use Rattle.std.specs.Prelude.{◌≡◌, ◌≢◌, ℕ, zero, suc, ◌+◌, ◌-◌, ◌*◌, ◌^◌, ◌≤◌, ◌<◌, min, length, get_or}
+use Rattle.std.specs.Prelude.{◌≡◌, ℕ, zero, suc, ◌+◌, ◌-◌, ◌*◌, ◌^◌, ◌≤◌, ◌<◌, min, length, get_or}
 use mathlib.Core.List.{List, [], ◌∷◌, ◌++◌, foldl}
 use Rattle.std.specs.Int.Count.{ones}
 use Rattle.subsets.specs.Subsets.{keep_if, splits, within}
