@@ -58,7 +58,7 @@ pub fn least_low(table: &[u32], s: u32, low: u32, v: u32) -> u32
     least
 }
 
-// The two rows of a block: in each lane the entry of the first part, then in each lane that of the second. An entry has the names of its low sinks, and o is that of none.
+// The two rows of a block: in each lane the entry of the first part, then in each lane that of the second. An entry has the names of its low sinks, and o is that of none. Written out, for a loop over a table of constants is slower (docs/BENCHMARKS.md).
 fn rows_of(block: &[u32; 8]) -> [u32; 56]
     ensures { result ≡ map (λ l. get_or block.now l 0) in_rows }
 {
