@@ -9,7 +9,7 @@ use lib.Count.{ones, ones_cat, ones-le}
 use lib.Dec.{ltb}
 use lib.ListN.{length, get_or, set}
 use borrow.Author.Tests.{ltb-true}
-use Rattle.lanes.specs.Blocks.{Dealt, Lanes, Next, Summed, begins, counts, to_first, in_lane, least_with, parts_to, to_second, split_off_lane}
+use Rattle.lanes.specs.Blocks.{Dealt, Lanes, Next, Summed, begins, counts, in_rows, to_first, in_lane, least_with, parts_to, to_second, split_off_lane}
 use Rattle.subsets.specs.Square.{held}
 use Rattle.subsets.specs.Subsets.{rising, splits}
 use Rattle.lanes.specs.Sums.{beyond, sums}
@@ -38,6 +38,10 @@ eight_get (x ∷ l) (suc k) e = eight_get l k (and_both (ltb x 8) (below_eight l
 pub low_parts : (k : ℕ) → (get_or to_first k 0 < 8) × (get_or to_second k 0 < 8)
 unfolding below_eight
 low_parts k = (eight_get to_first k refl, eight_get to_second k refl)
+
+pub low_in_rows : (j : ℕ) → get_or in_rows j 0 < 8
+unfolding below_eight
+low_in_rows j = eight_get in_rows j refl
 
 -- the lanes of h read blocks before h
 lanes_kept : (t t2 ss : List ℕ) (h : ℕ) → 0 < h → ((j : ℕ) → j < 8 * h → get_or t2 j 0 ≡ get_or t j 0) → Lanes t h ss → Lanes t2 h ss

@@ -1,6 +1,6 @@
 -- For the code alone: subsets in blocks of eight, which differ in the three lowest sinks. The splits of a block are examined together: the 27 ways to deal three sinks to the first part, the second part and neither are its lanes.
-use Rattle.std.specs.Prelude.{◌≡◌, ◌≢◌, ℕ, zero, suc, ◌+◌, ◌-◌, ◌*◌, ◌^◌, ◌≤◌, ◌<◌, min, length, get_or}
-use mathlib.Core.List.{List, [], ◌∷◌, foldl}
+use Rattle.std.specs.Prelude.{◌≡◌, ℕ, zero, suc, ◌+◌, ◌-◌, ◌*◌, ◌^◌, ◌≤◌, ◌<◌, min, length, get_or}
+use mathlib.Core.List.{List, [], ◌∷◌, ◌++◌, foldl}
 use Rattle.std.specs.Int.Count.{ones}
 use Rattle.subsets.specs.Subsets.{keep_if, splits, within}
 use Rattle.subsets.specs.Square.{held}
@@ -12,6 +12,10 @@ to_first = 0 ∷ 1 ∷ 2 ∷ 3 ∷ 4 ∷ 5 ∷ 6 ∷ 7 ∷ 0 ∷ 1 ∷ 2 ∷ 3 �
 
 abbrev pub to_second : List ℕ
 to_second = 7 ∷ 6 ∷ 5 ∷ 4 ∷ 3 ∷ 2 ∷ 1 ∷ 0 ∷ 3 ∷ 2 ∷ 1 ∷ 0 ∷ 5 ∷ 4 ∷ 1 ∷ 0 ∷ 6 ∷ 4 ∷ 2 ∷ 0 ∷ 1 ∷ 0 ∷ 2 ∷ 0 ∷ 4 ∷ 0 ∷ 0 ∷ []
+
+-- the low sinks whose entries stand in the two rows of a block; the last lane of a row is one that nobody looks at
+abbrev pub in_rows : List ℕ
+in_rows = (to_first ++ 0 ∷ []) ++ (to_second ++ 0 ∷ [])
 
 -- the lanes that deal the low sinks l begin here, and are so many
 abbrev pub begins : ℕ → ℕ
@@ -61,13 +65,6 @@ pub record Summed (rows : List ℕ) (h : ℕ) (sums sums' : List ℕ) : Type 0 w
 pub record Dealt (t : List ℕ) (m : ℕ) (rows : List ℕ) : Type 0 where
   pub first : (h k : ℕ) → 0 < h → h < m → k < 27 → get_or rows (56 * h + k) 0 ≡ get_or t (8 * h + get_or to_first k 0) 0
   pub second : (h k : ℕ) → 0 < h → h < m → k < 27 → get_or rows (56 * h + 28 + k) 0 ≡ get_or t (8 * h + get_or to_second k 0) 0
-
--- lanes are put in at a place of the first row and 28 further on, in the second: what the table says of the block at `base`, of its low sinks ls and ms
-pub record Lays (t : List ℕ) (base : ℕ) (ls ms : List ℕ) (at : ℕ) (rows rows' : List ℕ) : Type 0 where
-  pub first : (j : ℕ) → j < length ls → get_or rows' (at + j) 0 ≡ get_or t (base + get_or ls j 0) 0
-  pub second : (j : ℕ) → j < length ms → get_or rows' (at + 28 + j) 0 ≡ get_or t (base + get_or ms j 0) 0
-  pub other : (i : ℕ) → ((j : ℕ) → j < length ls → i ≢ at + j) → ((j : ℕ) → j < length ms → i ≢ at + 28 + j) → get_or rows' i 0 ≡ get_or rows i 0
-  pub modest : Modest rows → ((l : ℕ) → l < 8 → get_or t (base + l) 0 < 2147483648) → Modest rows'
 
 -- the rows of h are put in, those before are as they were, and all can be added up
 pub record Deals (t : List ℕ) (h : ℕ) (rows rows' : List ℕ) : Type 0 where

@@ -1,8 +1,8 @@
 // Rows of lanes: for each high set, what the table says of the first part and of the second in each of the 27 ways to deal the three lowest sinks. A split of a high set is then one sum of two rows, and many
 // lanes at a time can be looked at. A row has one lane more that nobody looks at.
-ghost use Rattle.std.specs.Prelude.{◌≡◌, [], ◌∷◌, ◌<◌, ◌≤◌, ◌^◌, ◌-◌, ◌+◌, ◌*◌, length, get_or, take, drop};
+ghost use Rattle.std.specs.Prelude.{◌≡◌, ◌<◌, ◌≤◌, ◌^◌, ◌-◌, ◌+◌, ◌*◌, length, get_or, map};
 ghost use Rattle.subsets.specs.Subsets.{rising};
-ghost use Rattle.lanes.specs.Blocks.{to_first, to_second, least_with, parts_to, split_off_lane, Modest, Within, Meets, Summed, Lays, Deals};
+ghost use Rattle.lanes.specs.Blocks.{in_rows, least_with, parts_to, split_off_lane, Modest, Within, Meets, Summed, Deals};
 
 use subsets::subset;
 use subsets::subset::Parts;
@@ -58,63 +58,15 @@ pub fn least_low(table: &[u32], s: u32, low: u32, v: u32) -> u32
     least
 }
 
-// One lane, at a place of the two rows: the first part has the low sinks p, the second q.
-fn put(table: &[u32], base: usize, p: usize, q: usize, rows: &mut [u32], at: usize)
-    requires { (base + 8 ≤ length table.now) × (at + 29 ≤ length rows.old) × (p < 8) × (q < 8) }
-    ensures { Lays table.now base (p ∷ []) (q ∷ []) at rows.old rows.new }
+// The two rows of a block: in each lane the entry of the first part, then in each lane that of the second. An entry has the names of its low sinks, and o is that of none. Written out, for a loop over a table of constants is slower (docs/BENCHMARKS.md).
+fn rows_of(block: &[u32; 8]) -> [u32; 56]
+    ensures { result ≡ map (λ l. get_or block.now l 0) in_rows }
 {
-    rows[at] = table[base + p];
-    rows[at + 28] = table[base + q];
-}
-
-// The two lanes that deal the sink p, where the first part has x besides and the second y.
-fn two(table: &[u32], base: usize, x: usize, y: usize, p: usize, rows: &mut [u32], at: usize)
-    requires { (base + 8 ≤ length table.now) × (at + 30 ≤ length rows.old) × (x + p < 8) × (y + p < 8) }
-    ensures { Lays table.now base (x ∷ (x + p) ∷ []) ((y + p) ∷ y ∷ []) at rows.old rows.new }
-{
-    put(table, base, x, y + p, rows, at);
-    put(table, base, x + p, y, rows, at + 1);
-}
-
-// The four lanes that deal the sinks p and q.
-fn four(
-    table: &[u32],
-    base: usize,
-    x: usize,
-    y: usize,
-    p: usize,
-    q: usize,
-    rows: &mut [u32],
-    at: usize,
-)
-    requires { (base + 8 ≤ length table.now) × (at + 32 ≤ length rows.old) × (x + q + p < 8) × (y + q + p < 8) }
-    ensures { Lays table.now base (x ∷ (x + p) ∷ (x + q) ∷ (x + q + p) ∷ []) ((y + q + p) ∷ (y + q) ∷ (y + p) ∷ y ∷ []) at rows.old rows.new }
-{
-    two(table, base, x, y + q, p, rows, at);
-    two(table, base, x + q, y, p, rows, at + 2);
-}
-
-// The lanes that deal two of the low sinks or all three.
-fn put_most(table: &[u32], base: usize, rows: &mut [u32], at: usize)
-    requires { (base + 8 ≤ length table.now) × (at + 48 ≤ length rows.old) }
-    ensures { Lays table.now base (take 20 to_first) (take 20 to_second) at rows.old rows.new }
-{
-    four(table, base, 0, 4, 1, 2, rows, at);
-    four(table, base, 4, 0, 1, 2, rows, at + 4);
-    four(table, base, 0, 0, 1, 2, rows, at + 8);
-    four(table, base, 0, 0, 1, 4, rows, at + 12);
-    four(table, base, 0, 0, 2, 4, rows, at + 16);
-}
-
-// The lanes that deal one of them or none.
-fn put_few(table: &[u32], base: usize, rows: &mut [u32], at: usize)
-    requires { (base + 8 ≤ length table.now) × (at + 35 ≤ length rows.old) }
-    ensures { Lays table.now base (drop 20 to_first) (drop 20 to_second) at rows.old rows.new }
-{
-    two(table, base, 0, 0, 1, rows, at);
-    two(table, base, 0, 0, 2, rows, at + 2);
-    two(table, base, 0, 0, 4, rows, at + 4);
-    put(table, base, 0, 0, rows, at + 6);
+    let [o, a, b, ab, c, ac, bc, abc] = *block;
+    [
+        o, a, b, ab, c, ac, bc, abc, o, a, b, ab, o, a, c, ac, o, b, c, bc, o, a, o, b, o, c, o, o,
+        abc, bc, ac, c, ab, b, a, o, ab, b, a, o, ac, c, a, o, bc, c, b, o, a, o, b, o, c, o, o, o,
+    ]
 }
 
 // The two rows of the high set h, from its block.
@@ -123,7 +75,6 @@ pub fn put_rows(table: &[u32], rows: &mut [u32], h: u32)
     ensures { Deals table.now h rows.old rows.new }
 {
     let from = 56 * h as usize;
-    let base = 8 * h as usize;
-    put_most(table, base, rows, from);
-    put_few(table, base, rows, from + 20);
+    let block = &table.as_chunks::<8>().0[h as usize];
+    rows[from..from + 56].copy_from_slice(&rows_of(block));
 }

@@ -1,7 +1,5 @@
-use mathlib.Core.Path.{refl}
-use native.Mathlib.Omega.{arith}
-use Rattle.lanes.proofs.Deals.{lays_all, lays_join}
+use Rattle.lanes.proofs.Deals.{deals}
 use Rattle.lanes.proofs.lanes.put_rows.Goals as goal
 
 pub returns : goal.returns
-returns c = lays_all (lays_join c.put_most.ensures c.put_few.ensures refl (omega arith) refl) (omega arith) (omega arith)
+returns c = deals c.args.h c.as_chunks.ensures.front c.requires.0 c.requires.1 c.rows_of.ensures c.copy_from_slice.ensures.after
