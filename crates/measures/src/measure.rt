@@ -101,7 +101,7 @@ pub fn rise(a: Tilted, b: Tilted) -> u32
     b.0 - a.0
 }
 
-// A tilted coordinate, as a number with sign. (That it is small is for the caller's store of the result.)
+// A tilted coordinate, as a number with sign. (That it is small is for the caller's store of the result. It has a name, since a `From` to i64 beside that to u32 would not say which of the two is counted from the corner.)
 pub fn signed(a: Tilted) -> i64
     ensures { (result ≡ unlifted a.0) × (a.0 < 2 ^ 32) }
 {
@@ -130,7 +130,7 @@ pub fn nearest(lo: Doubled, hi: Doubled, p: Doubled) -> Doubled
     lo.max(hi.min(p))
 }
 
-// A doubled coordinate, as a number with sign.
+// A doubled coordinate, as a number with sign. No `From`, here and next: it could not ask that the number fits.
 pub fn whole(p: Doubled) -> i32
     requires { p.0 ≤ 184000000 }
     ensures { result ≡ lowered p.0 }

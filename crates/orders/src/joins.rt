@@ -1,16 +1,8 @@
 // The check of a joining order: refusal 6.
-ghost use Rattle.std.specs.Prelude.{◌≡◌, ◌||◌, ◌-◌, ◌*◌, ◌≤◌, ◌<◌, eqb, leb, length, get_or};
+ghost use Rattle.std.specs.Prelude.{◌≡◌, ◌||◌, ◌-◌, ◌*◌, ◌≤◌, ◌<◌, eqb, leb, length};
 ghost use Rattle.orders.specs.Joins.{bad_at, check_joins};
 
 use plane::refusal::Refusal;
-
-// Entry p of the pairs.
-fn entry(js: &[u16], p: usize) -> usize
-    requires { p < length js.now }
-    ensures { result ≡ get_or js.now p 0 }
-{
-    usize::from(js[p])
-}
 
 // Whether a pair that makes node top names a node twice, or one that is not lower.
 fn is_unlike(a: usize, b: usize, top: usize) -> bool

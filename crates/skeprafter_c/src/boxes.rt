@@ -16,7 +16,11 @@ pub extern "C" fn skeprafter_box_of(
 )
     ensures { Boxes x.now y.now delays.now kept.old kept.new said.new }
 {
-    match skeprafter::box_of(&Sinks { xs: x, ys: y, delays }) {
+    match skeprafter::box_of(&Sinks {
+        xs: x,
+        ys: y,
+        delays,
+    }) {
         Ok(b) => {
             *kept = b.into();
             *said = [0; 6];

@@ -19,7 +19,15 @@ pub extern "C" fn skeprafter_search(
 )
     ensures { Searched x.now y.now delays.now budget table.old joins.old u.old v.old wires.old table.new joins.new u.new v.new wires.new said.new }
 {
-    let sinks = Sinks { xs: x, ys: y, delays };
-    let mut layout = Layout { us: u, vs: v, ws: wires };
+    let sinks = Sinks {
+        xs: x,
+        ys: y,
+        delays,
+    };
+    let mut layout = Layout {
+        us: u,
+        vs: v,
+        ws: wires,
+    };
     *said = said::of_answer(skeprafter::search(&sinks, budget, table, joins, &mut layout));
 }

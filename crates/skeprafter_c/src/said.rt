@@ -44,7 +44,14 @@ impl Values for Found {
     ghost values = { found_values };
 
     fn accepted(self) -> [u64; 6] {
-        [0, 0, 0, u64::from(self.total), self.steps, u64::from(self.proven)]
+        [
+            0,
+            0,
+            0,
+            u64::from(self.total),
+            self.steps,
+            u64::from(self.proven),
+        ]
     }
 }
 

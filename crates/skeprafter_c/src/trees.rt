@@ -17,8 +17,16 @@ pub extern "C" fn skeprafter_embed(
 )
     ensures { Embeds x.now y.now delays.now joins.now u.old v.old wires.old u.new v.new wires.new said.new }
 {
-    let sinks = Sinks { xs: x, ys: y, delays };
-    let mut layout = Layout { us: u, vs: v, ws: wires };
+    let sinks = Sinks {
+        xs: x,
+        ys: y,
+        delays,
+    };
+    let mut layout = Layout {
+        us: u,
+        vs: v,
+        ws: wires,
+    };
     *said = said::of_answer(skeprafter::embed(&sinks, joins, &mut layout));
 }
 
@@ -32,7 +40,11 @@ pub extern "C" fn skeprafter_join_nearest(
 )
     ensures { Joins x.now y.now delays.now joins.old joins.new said.new }
 {
-    let sinks = Sinks { xs: x, ys: y, delays };
+    let sinks = Sinks {
+        xs: x,
+        ys: y,
+        delays,
+    };
     *said = said::of_answer(skeprafter::join_nearest(&sinks, joins));
 }
 
@@ -49,7 +61,15 @@ pub extern "C" fn skeprafter_embed_nearest(
 )
     ensures { JoinsAndEmbeds x.now y.now delays.now joins.old u.old v.old wires.old joins.new u.new v.new wires.new said.new }
 {
-    let sinks = Sinks { xs: x, ys: y, delays };
-    let mut layout = Layout { us: u, vs: v, ws: wires };
+    let sinks = Sinks {
+        xs: x,
+        ys: y,
+        delays,
+    };
+    let mut layout = Layout {
+        us: u,
+        vs: v,
+        ws: wires,
+    };
     *said = said::of_answer(skeprafter::embed_nearest(&sinks, joins, &mut layout));
 }
