@@ -1,11 +1,11 @@
 -- Places and numbers in the value of a field: what is written is read back, and what is read is written back.
 use mathlib.Core.Path.{◌≡◌, refl, sym, ◌∙◌}
-use mathlib.Core.List.{List, [], append-nil}
+use mathlib.Core.List.{List, [], map, append-nil}
 use Prim.Native.Nat.{ℕ, zero, suc, ◌+◌, ◌*◌, ◌/◌, ◌%◌, ◌≤◌, ◌<◌, ◌^◌}
 use native.Mathlib.Nat.{add-zero, mul-suc, mul-le-mul_left, mul-div_cancel_left}
 use native.Mathlib.Omega.{arith}
 use lib.IntN.{ℤ, pos}
-use lib.ListN.{length, get_or, take, drop, length-append}
+use lib.ListN.{length, get_or, take, drop, length-append, length-map}
 use lib.Seq.{take-suc, take-add, drop-drop, take-length}
 use mir.Facts.{to_z-of_z, of_z-to_z, Fits-of_z}
 use mir.Syntax.{w32}
@@ -105,6 +105,9 @@ module _ (w : ℕ) where
   pub length-numbers : (ns : List ℕ) → length (numbers w ns) ≡ w * length ns
   unfolding numbers
   length-numbers ns = length-records (λ i. big w (get_or ns i 0)) w (λ i. length-big w (get_or ns i 0)) (length ns)
+
+  pub length_mapped : {A : Type 0} (f : A → ℕ) (ns : List A) → length (numbers w (map f ns)) ≡ w * length ns
+  length_mapped f ns = rw (length-numbers, length-map)
 
   number_at_lem : (ns : List ℕ) (i : ℕ) → i < length ns → get_or ns i 0 < 256 ^ w → number_at w (numbers w ns) (w * i) ≡ get_or ns i 0
   unfolding numbers

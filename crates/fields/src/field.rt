@@ -1,6 +1,6 @@
 // Fields: a one-byte tag, a two-byte length, the value.
 ghost use Rattle.std.specs.Prelude.{◌≡◌, ◌∷◌, ◌+◌, ◌≤◌, ◌<◌, length};
-ghost use Rattle.std.proofs.lemmas.List.Edits.{sets};
+ghost use Rattle.text.specs.Written.{Room, Writes};
 ghost use Rattle.fields.specs.Bytes.{big};
 ghost use Rattle.fields.specs.Tags.{tag_number};
 ghost use Rattle.fields.specs.Form.{wrong_length, next_at, body_at, field_at, form, past, value_of, Formed};
@@ -8,6 +8,7 @@ ghost use Rattle.fields.specs.Form.{wrong_length, next_at, body_at, field_at, fo
 use crate::number::Number;
 use crate::tag::Tag;
 use plane::refusal::Refusal;
+use text::page::Page;
 
 fn is_wrong_length(tag: Tag, long: u16) -> bool
     ensures { result ≡ wrong_length (tag_number tag) long }
@@ -107,10 +108,10 @@ pub fn value(file: &[u8], tag: Tag) -> &[u8]
 }
 
 // The tag and the length of a field.
-pub fn put_header(out: &mut [u8], at: usize, tag: Tag, long: u16)
-    requires { at + 3 ≤ length out.old }
-    ensures { out.new ≡ sets out.old at (tag_number tag ∷ big 2 long) }
+pub fn put_header(page: &mut Page, tag: Tag, long: u16)
+    requires { Room page.old (tag_number tag ∷ big 2 long) }
+    ensures { Writes (tag_number tag ∷ big 2 long) page.old page.new }
 {
-    out[at] = tag.byte();
-    long.put(out, at + 1);
+    page.byte(tag.byte());
+    long.put(page);
 }

@@ -1,8 +1,10 @@
-// Numbers as bytes, the highest byte first, read from a slice and written to one.
+// Numbers as bytes, the highest byte first, read from a slice and written on a page.
 ghost use Rattle.std.specs.Prelude.{◌≡◌, ℕ, ◌+◌, ◌≤◌, ◌<◌, length};
 ghost use Rattle.std.proofs.Common.{rules};
-ghost use Rattle.std.proofs.lemmas.List.Edits.{sets};
+ghost use Rattle.text.specs.Written.{Room, Writes};
 ghost use Rattle.fields.specs.Bytes.{big, number_at, bits, signed};
+
+use text::page::Page;
 
 // A number that stands in so many bytes, as a whole number from 0 on.
 pub trait Number: Copy {
@@ -14,9 +16,9 @@ pub trait Number: Copy {
 
     ghost made: { ℕ → Self };
 
-    fn put(self, out: &mut [u8], at: usize)
-        requires { at + SIZE ≤ length out.old }
-        ensures { out.new ≡ sets out.old at (big SIZE (whole self)) };
+    fn put(self, page: &mut Page)
+        requires { Room page.old (big SIZE (whole self)) }
+        ensures { Writes (big SIZE (whole self)) page.old page.new };
 
     fn read(s: &[u8], at: usize) -> Self
         requires { at + SIZE ≤ length s.now }
@@ -36,8 +38,8 @@ impl Number for u16 {
 
     ghost some = { Prim.search rules };
 
-    fn put(self, out: &mut [u8], at: usize) {
-        out[at..at + 2].copy_from_slice(&self.to_be_bytes());
+    fn put(self, page: &mut Page) {
+        page.word(&self.to_be_bytes());
     }
 
     fn read(s: &[u8], at: usize) -> u16 {
@@ -56,8 +58,8 @@ impl Number for u32 {
 
     ghost some = { Prim.search rules };
 
-    fn put(self, out: &mut [u8], at: usize) {
-        out[at..at + 4].copy_from_slice(&self.to_be_bytes());
+    fn put(self, page: &mut Page) {
+        page.word(&self.to_be_bytes());
     }
 
     fn read(s: &[u8], at: usize) -> u32 {
@@ -77,8 +79,8 @@ impl Number for i32 {
 
     ghost some = { Prim.search rules };
 
-    fn put(self, out: &mut [u8], at: usize) {
-        self.cast_unsigned().put(out, at);
+    fn put(self, page: &mut Page) {
+        self.cast_unsigned().put(page);
     }
 
     fn read(s: &[u8], at: usize) -> i32 {

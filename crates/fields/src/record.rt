@@ -1,56 +1,52 @@
 // Records in the value of a field: places (tags 2 and 4), node numbers (tag 3) and wires (tag 5), read and written.
 ghost use Rattle.std.specs.Prelude.{◌≡◌, ◌++◌, ◌+◌, ◌*◌, ◌/◌, ◌≤◌, ◌<◌, map, length};
-ghost use Rattle.std.proofs.lemmas.List.Edits.{sets};
 ghost use Rattle.lists.specs.Grow.{front, tab};
 ghost use Rattle.fields.specs.Bytes.{number_at};
 ghost use Rattle.fields.specs.Tags.{tag_number};
 ghost use Rattle.fields.specs.Fields.{field, places, numbers, firsts, seconds, numbers_in};
-ghost use Rattle.fields.specs.Code.{Put};
+ghost use Rattle.text.specs.Written.{Room, Writes};
 
 use crate::field;
 use crate::number::Number;
 use crate::tag::Tag;
+use text::page::Page;
 
 // Two lists beside each other: so the C interface hands the coordinates over (`skeprafter_write_sinks`).
-fn put_each_place(out: &mut [u8], at: usize, xs: &[i32], ys: &[i32])
-    requires { (at + 8 * length xs.now ≤ length out.old) × (length xs.now ≡ length ys.now) }
-    ensures { out.new ≡ sets out.old at (places xs.now ys.now) }
+fn put_each_place(page: &mut Page, xs: &[i32], ys: &[i32])
+    requires { Room page.old (places xs.now ys.now) × (length xs.now ≡ length ys.now) }
+    ensures { Writes (places xs.now ys.now) page.old page.new }
 {
     for (i, x) in xs.iter().enumerate() {
-        x.put(out, at + 8 * i);
-        ys[i].put(out, at + 8 * i + 4);
+        x.put(page);
+        ys[i].put(page);
     }
 }
 
-// A field of places, and the byte after it.
-pub fn put_places(out: &mut [u8], at: usize, tag: Tag, xs: &[i32], ys: &[i32]) -> usize
-    requires { (at + (3 + 8 * length xs.now) ≤ length out.old) × (length xs.now ≡ length ys.now) × (length xs.now ≤ 1023) }
-    ensures { Put at (field (tag_number tag) (places xs.now ys.now)) out.old out.new result }
+// A field of places.
+pub fn put_places(page: &mut Page, tag: Tag, xs: &[i32], ys: &[i32])
+    requires { Room page.old (field (tag_number tag) (places xs.now ys.now)) × (length xs.now ≡ length ys.now) × (length xs.now ≤ 1023) }
+    ensures { Writes (field (tag_number tag) (places xs.now ys.now)) page.old page.new }
 {
-    let n = xs.len();
-    field::put_header(out, at, tag, (8 * n) as u16);
-    put_each_place(out, at + 3, xs, ys);
-    at + 3 + 8 * n
+    field::put_header(page, tag, (8 * xs.len()) as u16);
+    put_each_place(page, xs, ys);
 }
 
-fn put_each<T: Number>(out: &mut [u8], at: usize, ns: &[T])
-    requires { at + T.SIZE * length ns.now ≤ length out.old }
-    ensures { out.new ≡ sets out.old at (numbers T.SIZE (map T.whole ns.now)) }
+fn put_each<T: Number>(page: &mut Page, ns: &[T])
+    requires { Room page.old (numbers T.SIZE (map T.whole ns.now)) }
+    ensures { Writes (numbers T.SIZE (map T.whole ns.now)) page.old page.new }
 {
-    for (i, n) in ns.iter().enumerate() {
-        n.put(out, at + T::SIZE * i);
+    for n in ns {
+        n.put(page);
     }
 }
 
-// A field of numbers, and the byte after it.
-pub fn put_numbers<T: Number>(out: &mut [u8], at: usize, tag: Tag, ns: &[T]) -> usize
-    requires { (at + (3 + T.SIZE * length ns.now) ≤ length out.old) × (T.SIZE * length ns.now < 65536) }
-    ensures { Put at (field (tag_number tag) (numbers T.SIZE (map T.whole ns.now))) out.old out.new result }
+// A field of numbers.
+pub fn put_numbers<T: Number>(page: &mut Page, tag: Tag, ns: &[T])
+    requires { Room page.old (field (tag_number tag) (numbers T.SIZE (map T.whole ns.now))) × (T.SIZE * length ns.now < 65536) }
+    ensures { Writes (field (tag_number tag) (numbers T.SIZE (map T.whole ns.now))) page.old page.new }
 {
-    let long = T::SIZE * ns.len();
-    field::put_header(out, at, tag, long as u16);
-    put_each(out, at + 3, ns);
-    at + 3 + long
+    field::put_header(page, tag, (T::SIZE * ns.len()) as u16);
+    put_each(page, ns);
 }
 
 // Of each record of so many bytes, the number that begins at its byte `from`.

@@ -6,7 +6,7 @@ ghost use Rattle.orders.specs.Joins.{check_joins, check_order};
 ghost use Rattle.orders.specs.Sound.{Sound};
 ghost use Rattle.fields.specs.Fields.{firsts, seconds, numbers_in};
 ghost use Rattle.fields.specs.Form.{Formed};
-ghost use Rattle.fields.specs.Code.{Put};
+ghost use Rattle.text.specs.Written.{Room, Writes as Puts};
 ghost use Rattle.house.specs.Files.{joined_file};
 ghost use Rattle.house.specs.Writing.{Writes};
 ghost use Rattle.house.specs.Reading.{check_joined_file, xs_in, ys_in, joins_in, ReadsJoins};
@@ -17,14 +17,15 @@ use fields::tag::Tag;
 use fields::{field, record};
 use orders::{check, joins};
 use plane::refusal::Refusal;
+use text::page::Page;
 
-// The file of checked sinks and joins, and the byte after it.
-pub fn put_joined(out: &mut [u8], xs: &[i32], ys: &[i32], js: &[u16]) -> usize
-    requires { Sound xs.now ys.now (prompt xs.now) js.now × (6 + 12 * length xs.now ≤ length out.old) }
-    ensures { Put 0 (joined_file xs.now ys.now js.now) out.old out.new result }
+// The file of checked sinks and joins.
+pub fn put_joined(page: &mut Page, xs: &[i32], ys: &[i32], js: &[u16])
+    requires { Sound xs.now ys.now (prompt xs.now) js.now × Room page.old (joined_file xs.now ys.now js.now) }
+    ensures { Puts (joined_file xs.now ys.now js.now) page.old page.new }
 {
-    let at = sink_file::put_sinks(out, xs, ys);
-    record::put_numbers(out, at, Tag::Joins, js)
+    sink_file::put_sinks(page, xs, ys);
+    record::put_numbers(page, Tag::Joins, js);
 }
 
 // Refusals 1 to 4, 6 and 7, else the joined file in the lent buffer, and its bytes.
@@ -33,7 +34,9 @@ pub fn write_joined(xs: &[i32], ys: &[i32], js: &[u16], out: &mut [u8]) -> Resul
 {
     check::check_prompt(xs, ys, js)?;
     room(6 + 12 * xs.len(), out.len())?;
-    Ok(put_joined(out, xs, ys, js))
+    let mut page = Page::new(out);
+    put_joined(&mut page, xs, ys, js);
+    Ok(page.len())
 }
 
 // Refusal 6, of the pairs in a value, for n sinks.

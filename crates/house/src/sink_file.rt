@@ -4,7 +4,7 @@ ghost use Rattle.plane.specs.Said.{told};
 ghost use Rattle.plane.specs.Sinks.{prompt, check_sinks};
 ghost use Rattle.fields.specs.Fields.{field, version, firsts, seconds};
 ghost use Rattle.fields.specs.Form.{Formed};
-ghost use Rattle.fields.specs.Code.{Put};
+ghost use Rattle.text.specs.Written.{Room, Writes as Puts};
 ghost use Rattle.house.specs.Files.{sink_file};
 ghost use Rattle.house.specs.Writing.{Writes};
 ghost use Rattle.house.specs.Reading.{check_sink_file, xs_in, ys_in, ReadsSinks};
@@ -14,24 +14,23 @@ use fields::tag::Tag;
 use fields::{field, record};
 use plane::refusal::Refusal;
 use plane::sinks;
+use text::page::Page;
 
-// The version, and the byte after it.
-fn put_version(out: &mut [u8]) -> usize
-    requires { 4 ≤ length out.old }
-    ensures { Put 0 (field 1 version) out.old out.new result }
+fn put_version(page: &mut Page)
+    requires { Room page.old (field 1 version) }
+    ensures { Puts (field 1 version) page.old page.new }
 {
-    field::put_header(out, 0, Tag::Version, 1);
-    out[3] = 1;
-    4
+    field::put_header(page, Tag::Version, 1);
+    page.byte(1);
 }
 
-// The file of checked sinks, and the byte after it.
-pub(crate) fn put_sinks(out: &mut [u8], xs: &[i32], ys: &[i32]) -> usize
-    requires { (7 + 8 * length xs.now ≤ length out.old) × (length xs.now ≡ length ys.now) × (length xs.now ≤ 512) }
-    ensures { Put 0 (sink_file xs.now ys.now) out.old out.new result }
+// The file of checked sinks.
+pub(crate) fn put_sinks(page: &mut Page, xs: &[i32], ys: &[i32])
+    requires { Room page.old (sink_file xs.now ys.now) × (length xs.now ≡ length ys.now) × (length xs.now ≤ 512) }
+    ensures { Puts (sink_file xs.now ys.now) page.old page.new }
 {
-    let at = put_version(out);
-    record::put_places(out, at, Tag::Sinks, xs, ys)
+    put_version(page);
+    record::put_places(page, Tag::Sinks, xs, ys);
 }
 
 // Refusals 1 to 4 and 7, else the sink file in the lent buffer, and its bytes.
@@ -40,7 +39,9 @@ pub fn write_sinks(xs: &[i32], ys: &[i32], out: &mut [u8]) -> Result<usize, Refu
 {
     sinks::check_places(xs, ys, 512)?;
     room(7 + 8 * xs.len(), out.len())?;
-    Ok(put_sinks(out, xs, ys))
+    let mut page = Page::new(out);
+    put_sinks(&mut page, xs, ys);
+    Ok(page.len())
 }
 
 // Refusals 2 to 4, of the sinks in a value of places.

@@ -5,7 +5,7 @@ ghost use Rattle.plane.specs.Sinks.{prompt};
 ghost use Rattle.orders.specs.Joins.{check_order};
 ghost use Rattle.orders.specs.Sound.{Sound};
 ghost use Rattle.fields.specs.Fields.{field, places, numbers, firsts, seconds, numbers_in};
-ghost use Rattle.fields.specs.Code.{Put};
+ghost use Rattle.text.specs.Written.{Room, Writes as Puts};
 ghost use Rattle.house.specs.Writing.{Writes};
 ghost use Rattle.house.specs.Reading.{xs_in, ys_in, joins_in, ReadsJoins};
 ghost use Rattle.tree_files.specs.Trees.{tree_file, unlike, check_nodes, check_tags, check_tree_file};
@@ -18,6 +18,7 @@ use house::joined_file;
 use house::room::room;
 use orders::check;
 use plane::refusal::Refusal;
+use text::page::Page;
 
 // What embedding gives: U, V and the wire to the parent of each node.
 #[derive(Clone, Copy)]
@@ -29,35 +30,34 @@ struct Nodes<'a> {
     ghost alike_w: { length us.now ≡ length ws.now },
 }
 
-// The fields of tags 4 and 5, and the byte after them.
-fn put_tags(out: &mut [u8], at: usize, nodes: Nodes) -> usize
-    requires { (at + (6 + 12 * length nodes.us.now) ≤ length out.old) × (length nodes.us.now ≤ 1023) }
-    ensures { Put at (field 4 (places nodes.entry.us.now nodes.entry.vs.now) ++ field 5 (numbers 4 nodes.entry.ws.now)) out.old out.new result }
+// The fields of tags 4 and 5.
+fn put_tags(page: &mut Page, nodes: Nodes)
+    requires { Room page.old (field 4 (places nodes.us.now nodes.vs.now) ++ field 5 (numbers 4 nodes.ws.now)) × (length nodes.us.now ≤ 1023) }
+    ensures { Puts (field 4 (places nodes.entry.us.now nodes.entry.vs.now) ++ field 5 (numbers 4 nodes.entry.ws.now)) page.old page.new }
 {
-    let next = record::put_places(out, at, Tag::Places, nodes.us, nodes.vs);
-    record::put_numbers(out, next, Tag::Wires, nodes.ws)
+    record::put_places(page, Tag::Places, nodes.us, nodes.vs);
+    record::put_numbers(page, Tag::Wires, nodes.ws);
 }
 
-// The file of checked sinks and joins, and the byte after it.
-fn put_tree(out: &mut [u8], xs: &[i32], ys: &[i32], js: &[u16]) -> usize
-    requires { Sound xs.now ys.now (prompt xs.now) js.now × (36 * length xs.now ≤ length out.old) }
-    ensures { Put 0 (tree_file xs.now ys.now js.now) out.old out.new result }
+// The file of checked sinks and joins.
+fn put_tree(page: &mut Page, xs: &[i32], ys: &[i32], js: &[u16])
+    requires { Sound xs.now ys.now (prompt xs.now) js.now × Room page.old (tree_file xs.now ys.now js.now) }
+    ensures { Puts (tree_file xs.now ys.now js.now) page.old page.new }
 {
     let m = 2 * xs.len() - 1;
     let mut us = [0i32; 1023];
     let mut vs = [0i32; 1023];
     let mut ws = [0u32; 1023];
     embed::embed_prompt(xs, ys, js, &mut us, &mut vs, &mut ws);
-    let at = joined_file::put_joined(out, xs, ys, js);
+    joined_file::put_joined(page, xs, ys, js);
     put_tags(
-        out,
-        at,
+        page,
         Nodes {
             us: &us[..m],
             vs: &vs[..m],
             ws: &ws[..m],
         },
-    )
+    );
 }
 
 // Refusals 1 to 4, 6 and 7, else the tree file in the lent buffer, and its bytes.
@@ -66,7 +66,9 @@ pub fn write_tree(xs: &[i32], ys: &[i32], js: &[u16], out: &mut [u8]) -> Result<
 {
     check::check_prompt(xs, ys, js)?;
     room(36 * xs.len(), out.len())?;
-    Ok(put_tree(out, xs, ys, js))
+    let mut page = Page::new(out);
+    put_tree(&mut page, xs, ys, js);
+    Ok(page.len())
 }
 
 // Whether node k has another U, V or wire in the values of tags 4 and 5.

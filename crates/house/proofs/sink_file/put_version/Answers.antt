@@ -1,12 +1,15 @@
-use mathlib.Core.Path.{refl, ap}
-use mathlib.Core.List.{List}
-use Prim.Native.Nat.{ℕ}
-use lib.ListN.{set}
-use Rattle.fields.specs.Bytes.{big}
 use Rattle.fields.specs.Fields.{field}
+use Rattle.text.proofs.Written.{room_here, room_then, then}
 use Rattle.house.proofs.sink_file.put_version.Goals as goal
 
+pub put_header-requires : goal.put_header-requires
+unfolding field
+put_header-requires c = room_here _ c.requires
+
+pub byte-requires : goal.byte-requires
+unfolding field
+byte-requires c = room_then c.put_header.ensures c.requires
+
 pub returns : goal.returns
-unfolding field big
-returns c =
-    record { lies = ap (λ (l : List ℕ). set l 3 1) c.put_header.ensures; ends = refl }
+unfolding field
+returns c = then c.put_header.ensures c.byte.ensures

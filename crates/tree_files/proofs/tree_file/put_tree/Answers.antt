@@ -7,9 +7,11 @@ use Rattle.orders.specs.Nodes.{places_u, places_v, wires}
 use Rattle.lists.proofs.Front.{front_part}
 use Rattle.tree_files.proofs.TreeAnswers.{length_u, length_v, length_wires}
 use Rattle.tree_files.proofs.TreeLengths.{tree_is}
-use Rattle.house.proofs.Lengths.{length-joined_file}
-use Rattle.fields.proofs.Stores.{put_more, put_size}
+use Rattle.text.proofs.Written.{room_here, room_then, then}
 use Rattle.tree_files.proofs.tree_file.put_tree.Goals as goal
+
+pub put_joined-requires : goal.put_joined-requires
+put_joined-requires c = (c.requires.0, room_here _ (rw tree_is at c.requires.1))
 
 pub put_tags-requires : goal.put_tags-requires
 put_tags-requires c =
@@ -21,13 +23,9 @@ put_tags-requires c =
     let m = 2 * length xs - 1 in
     let e = c.embed_prompt.ensures in
     let p = front_part (places_u s js) (replicate 1023 (pos 0)) m e.writes_u (length_u xs ys js) in
-    let u = length_u xs ys js in
-    let j = c.requires.0.joins in
-    let l = c.put_joined-at.ensures in
-    rw p (
-      omega (arith, put_size l, l.ends, length-joined_file xs ys js j.valid j.some, j.some),
-      omega (arith, j.few),
-    )
+    let q = front_part (places_v s js) (replicate 1023 (pos 0)) m e.writes_v (length_v xs ys js) in
+    let r = front_part (wires s js) (replicate 1023 0) m e.writes_w (length_wires xs ys js) in
+    rw (p, q, r) (room_then c.put_joined.ensures (rw tree_is at c.requires.1), omega (arith, length_u xs ys js, c.requires.0.joins.few))
 
 pub returns : goal.returns
 returns c =
@@ -41,4 +39,4 @@ returns c =
     let p = front_part (places_u s js) (replicate 1023 (pos 0)) m e.writes_u (length_u xs ys js) in
     let q = front_part (places_v s js) (replicate 1023 (pos 0)) m e.writes_v (length_v xs ys js) in
     let r = front_part (wires s js) (replicate 1023 0) m e.writes_w (length_wires xs ys js) in
-    rw (tree_is xs ys js) (put_more c.put_joined-at.ensures (rw (p, q, r) at c.put_tags.ensures))
+    rw (tree_is xs ys js) (then c.put_joined.ensures (rw (p, q, r) at c.put_tags.ensures))
