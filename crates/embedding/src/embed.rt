@@ -46,7 +46,7 @@ pub fn embed_sound(sinks: &Sinks<'_>, js: &[u16], layout: &mut Layout<'_>) -> u3
     embed_with::<1023>(sinks, js, layout)
 }
 
-// The same, into three lists of the caller's own.
+// The same, into three lists of the caller's own, lent one by one. (With a layout over arrays of its own a caller's proof did not get back what the arrays hold.)
 pub fn embed_into(
     sinks: &Sinks<'_>,
     js: &[u16],

@@ -50,6 +50,7 @@ pub fn is_late(w: u32) -> bool
     1000000 < w
 }
 
+// No `From`: it could not ask that x is near. Nor a `TryFrom`: callers have checked x, and would test it again.
 pub fn on_grid(x: i32) -> Grid
     requires { Central x }
     ensures { result ≡ grid_of x }
@@ -93,7 +94,7 @@ pub fn width(a: Tilted, b: Tilted) -> u32
     a.0.abs_diff(b.0)
 }
 
-// The same, where b is not below a.
+// The same, where b is not below a, for `boxes::breadth`.
 pub fn rise(a: Tilted, b: Tilted) -> u32
     requires { a.0 ≤ b.0 }
     ensures { result ≡ gap b.0 a.0 }

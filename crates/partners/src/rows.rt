@@ -49,7 +49,7 @@ impl Rows {
         }
     }
 
-    // The diameter of row t's union with a box. The box has its ends in order, so the union has.
+    // The diameter of row t's union with a box. The box has its ends in order, so the union has. (It is asked and no invariant of the type, since a box that a caller from C keeps may be any four numbers.)
     #[tactic(auto, unfolding(crate::specs::Rows::span))]
     pub fn span(&self, t: usize, b: Box) -> u32
         requires { (t < 512) × InOrder b }

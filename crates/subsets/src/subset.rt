@@ -1,4 +1,4 @@
-// A subset of the sinks is a number whose bit i stands for sink i.
+// A subset of the sinks is a number whose bit i stands for sink i. It and the number of sinks are plain numbers, with their bound in each contract: a type for them would be taken apart at each step of the arithmetic.
 ghost use Rattle.std.specs.Prelude.{◌≡◌, ◌<◌, ◌≤◌, ◌^◌, ◌-◌, MatchOption, bit_and, length};
 ghost use Rattle.std.specs.Iterator.{at_most};
 ghost use Rattle.subsets.specs.Subsets.{lowest, splits};
