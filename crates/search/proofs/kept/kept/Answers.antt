@@ -9,6 +9,22 @@ use Rattle.subsets.proofs.KeptParts.{found, kept_hit, kept_miss, kept_none, kept
 use Rattle.subsets.proofs.Lowest.{beyond_lt}
 use Rattle.search.proofs.kept.kept.Goals as goal
 
+pub loop-other-init : goal.loop-other-init
+loop-other-init c =
+    let s = c.args.s in
+    let o = c.of-other-items.ensures in
+    rw c.into_iter-other-iterator.ensures.into_iter_gives (o.0 ∙ c.beyond-rest.ensures, rw (o.1, c.beyond-rest.ensures) (and_self (s - 2 ^ lowest s)), rw o.1 refl)
+
+pub cost-requires : goal.cost-requires
+cost-requires c =
+    let s = c.in-Some.ensures.steps in
+    (omega arith, omega (arith, sub_le c.loop-other.other-iterator.next (c.args.s - 2 ^ lowest c.args.s) c.loop-other.invariant.1, beyond_lt c.args.s c.requires.0), c.requires.2)
+
+pub overflow_sub-result : goal.overflow_sub-result
+overflow_sub-result c =
+    let s = c.in-Some.ensures.steps in
+    omega (arith, sub_le c.loop-other.other-iterator.next (c.args.s - 2 ^ lowest c.args.s) c.loop-other.invariant.1, beyond_lt c.args.s c.requires.0)
+
 pub returns-then-cost-goal : goal.returns-then-cost-goal
 returns-then-cost-goal c =
     let l = c.loop-other in
@@ -31,6 +47,9 @@ loop-other-preserved c =
       rw e (sub_and (a.s - 2 ^ lowest a.s) (k - 1)),
       rw e (sym (kept_miss c.diameter-d.result a.table.now a.s c.from-goal.result c.requires.0 k s.0 l.invariant.1 (λ e. c.if-cost-goal.false (sum ∙ e)))) ∙ l.invariant.2,
     )
+
+pub overflow_sub-result-2 : goal.overflow_sub-result-2
+overflow_sub-result-2 c = omega (arith, c.beyond-rest.ensures)
 
 pub returns : goal.returns
 returns c =
