@@ -134,8 +134,8 @@ module _ {n N : ℕ} {ns : Nodes N} where
 pub open_at : {n : ℕ} {N : ℕ} {ns : Nodes N} {us vs : List ℤ} (k : ℕ) → Sized n ns → 2 * n - 1 ≤ length us → 2 * n - 1 ≤ length vs → k < 2 * n - 1 → Placeable k ns us vs
 open_at k w a b h =
     record {
-      inside = omega (arith, w.room.room);
-      fits = w.room.fits;
+      inside = omega (arith, w.room);
+      fits = w.fits;
       has = (omega arith, omega arith);
       fair = w.fair k h;
       size = w.sized k h;

@@ -32,7 +32,7 @@ use Rattle.orders.proofs.Totals.{fairs, diam_is, size_is}
 use Rattle.orders.proofs.Lifting.{value_lifts}
 use Rattle.embedding.proofs.Spots.{spot_is, spots_held, sink_near, sink-root, spots_all}
 
-module _ {s : Sinks} {js : List ℕ} {N : ℕ} {ns : Nodes N} (m : AllNodes s js ns) where
+module _ {s : Sinks} {js : List ℕ} {N : ℕ} (ns : Nodes N) (m : AllNodes s js ns.hulls ns.diameters ns.parents) where
   abbrev n : ℕ
   n = s.n
 
@@ -45,15 +45,15 @@ module _ {s : Sinks} {js : List ℕ} {N : ℕ} {ns : Nodes N} (m : AllNodes s js
       rw (m.named k h, size_is m k (omega arith), size_is m (parent n js k) (omega arith)) (rises s js m.ordered k h)
 
   -- what the places are found from, and the wires
-  pub all_sized : Sized n ns
-  all_sized = record { some = m.ordered.some; few = m.ordered.few; room = m.room; fair = fairs m; sized = m.sized; rising = rising }
+  pub all_sized : 2 * n - 1 ≤ N → N < 4294967296 → Sized n ns
+  all_sized a b = record { some = m.ordered.some; few = m.ordered.few; room = a; fits = b; fair = fairs m; sized = m.sized; rising = rising }
 
-  pub climbs : Climbs n ns
-  climbs =
+  pub climbs : 2 * n - 1 ≤ N → Climbs n ns
+  climbs a =
       record {
         some = m.ordered.some;
         few = m.ordered.few;
-        room = m.room;
+        room = a;
         rising = rising;
         longer = longer;
       }
@@ -120,16 +120,16 @@ front_is {A} g m a old new e h made kept = ext_get_or a new (front (tab g m) old
         (or_lt k m)
 
 -- the buffers before, after the joins, and after the sinks
-places_are : {xs ys : List ℤ} (delays : List ℕ) {js : List ℕ} {N : ℕ} {ns : Nodes N} {us vs mid-u mid-v us' vs' : List ℤ} → AllPlaced xs ys → AllNodes (sinks_at xs ys delays) js ns
+places_are : {xs ys : List ℤ} (delays : List ℕ) {js : List ℕ} {N : ℕ} {ns : Nodes N} {us vs mid-u mid-v us' vs' : List ℤ} → AllPlaced xs ys → AllNodes (sinks_at xs ys delays) js ns.hulls ns.diameters ns.parents
     → 2 * length xs - 1 ≤ length us → 2 * length xs - 1 ≤ length vs → length us' ≡ length us → length vs' ≡ length vs
     → PutsDown (length xs) ns (length xs) us vs mid-u mid-v → PutsSinks xs ys (length xs) mid-u mid-v us' vs'
     → (us' ≡ front (places_u (sinks_at xs ys delays) js) us) × (vs' ≡ front (places_v (sinks_at xs ys delays) js) vs)
 places_are {xs} {ys} delays {js} {N} {ns} {us} {vs} {mid-u} {mid-v} {us'} {vs'} r m a b p q down own =
     let s = sinks_at xs ys delays in
     let all : Spots (length xs) ns 0 us' vs' =
-    spots_all (rising m) (λ k h. sink-root xs ys delays k (box_at ns.hulls k) (r k h) (covers k h)) (λ k h. sink_near s k (box_at ns.hulls k) (covers k h)) down.spots own in (
-      front_is (value s (u s) js) (2 * length xs - 1) (pos 0) us us' p a (u_is m all) (λ k h. own.kept_u k (omega arith) ∙ down.kept_u k h),
-      front_is (value s (v s) js) (2 * length xs - 1) (pos 0) vs vs' q b (v_is m all) (λ k h. own.kept_v k (omega arith) ∙ down.kept_v k h),
+    spots_all (rising ns m) (λ k h. sink-root xs ys delays k (box_at ns.hulls k) (r k h) (covers k h)) (λ k h. sink_near s k (box_at ns.hulls k) (covers k h)) down.spots own in (
+      front_is (value s (u s) js) (2 * length xs - 1) (pos 0) us us' p a (u_is ns m all) (λ k h. own.kept_u k (omega arith) ∙ down.kept_u k h),
+      front_is (value s (v s) js) (2 * length xs - 1) (pos 0) vs vs' q b (v_is ns m all) (λ k h. own.kept_v k (omega arith) ∙ down.kept_v k h),
     )
   where
     covers : (k : ℕ) → k < length xs → Covers (sinks_at xs ys delays) (k ∷ []) (box_at ns.hulls k)
@@ -137,9 +137,9 @@ places_are {xs} {ys} delays {js} {N} {ns} {us} {vs} {mid-u} {mid-v} {us'} {vs'} 
 
 -- the whole call, from what its four parts leave
 pub embeds : {xs ys : List ℤ} {delays js : List ℕ} {N : ℕ} {ns : Nodes N} {us vs mid-u mid-v us' vs' : List ℤ} {ws ws' : List ℕ} {t : ℕ} → Ready xs ys delays js us vs ws
-    → AllNodes (sinks_at xs ys delays) js ns → t ≡ total (sinks_at xs ys delays) js → length us' ≡ length us → length vs' ≡ length vs
+    → AllNodes (sinks_at xs ys delays) js ns.hulls ns.diameters ns.parents → t ≡ total (sinks_at xs ys delays) js → length us' ≡ length us → length vs' ≡ length vs
     → PutsDown (length xs) ns (length xs) us vs mid-u mid-v → PutsSinks xs ys (length xs) mid-u mid-v us' vs' → ws' ≡ front (tab (wire_in (length xs) ns) (2 * length xs - 1)) ws
     → Embeds xs ys delays js us vs ws t us' vs' ws'
-embeds {delays = delays} {ws = ws} r m e p q down own w =
-    let l = places_are delays (placed r.sound.sinks) m r.room_u r.room_v p q down own in
-    record { sums = e; writes_u = l.0; writes_v = l.1; writes_w = w ∙ ap (λ (x : List ℕ). front x ws) (wires_are m) }
+embeds {delays = delays} {ns = ns} {ws = ws} r m e p q down own w =
+    let l = places_are delays {ns = ns} (placed r.sound.sinks) m r.room_u r.room_v p q down own in
+    record { sums = e; writes_u = l.0; writes_v = l.1; writes_w = w ∙ ap (λ (x : List ℕ). front x ws) (wires_are ns m) }

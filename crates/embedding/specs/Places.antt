@@ -7,13 +7,14 @@ use Rattle.measures.specs.Spots.{root_of, nearest_of}
 use Rattle.measures.specs.declared.segment.Spot.{Spot}
 use Rattle.orders.specs.declared.nodes.Nodes.{Nodes}
 use Rattle.orders.specs.Table.{box_at}
-use Rattle.orders.specs.Arrays.{Fairs, Diameters, Rising, NodeRoom}
+use Rattle.orders.specs.Arrays.{Fairs, Diameters, Rising}
 
 -- what the places are found from, parents first
 pub record Sized {N : ℕ} (n : ℕ) (ns : Nodes N) : Type 0 where
   pub some : 0 < n
   pub few : n ≤ 512
-  pub room : NodeRoom n ns
+  pub room : 2 * n - 1 ≤ N
+  pub fits : N < 4294967296
   pub fair : Fairs (2 * n - 1) ns.hulls
   pub sized : Diameters (2 * n - 1) ns.hulls ns.diameters
   pub rising : Rising n ns.parents

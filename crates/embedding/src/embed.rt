@@ -26,7 +26,13 @@ fn embed_with<const N: usize>(sinks: &Sinks<'_>, js: &[u16], layout: &mut Layout
         parents: [0; N],
     };
     let n = sinks.xs.len();
-    let total = nodes::put_nodes(sinks, js, &mut nodes);
+    let total = nodes::put_nodes(
+        sinks,
+        js,
+        &mut nodes.hulls,
+        &mut nodes.diameters,
+        &mut nodes.parents,
+    );
     places::join_places(&nodes, n, layout.us, layout.vs);
     places::sink_places(sinks.xs, sinks.ys, layout.us, layout.vs);
     wires::write_wires(&nodes, n, layout.ws);
@@ -46,7 +52,7 @@ pub fn embed_sound(sinks: &Sinks<'_>, js: &[u16], layout: &mut Layout<'_>) -> u3
     embed_with::<1023>(sinks, js, layout)
 }
 
-// The same, into three lists of the caller's own, lent one by one. (With a layout over arrays of its own a caller's proof did not get back what the arrays hold.)
+// The same, into three lists of the caller's own, lent one by one. (With a layout over arrays of N numbers of its own, N a parameter, a caller's proof did not get back what the arrays hold.)
 pub fn embed_into(
     sinks: &Sinks<'_>,
     js: &[u16],

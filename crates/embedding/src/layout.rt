@@ -2,6 +2,7 @@
 ghost use Rattle.std.specs.Prelude.{◌≡◌, length};
 ghost use Rattle.embedding.specs.Embedding.{check_room};
 
+use crate::room;
 use plane::refusal::Refusal;
 
 // U and V of each node's place, and its wire, by node number: three lists, as callers from C lend them.
@@ -17,9 +18,6 @@ impl Layout<'_> {
     pub fn check_room(&self, nodes: usize) -> Result<(), Refusal>
         ensures { result ≡ check_room nodes (length self.now.us.now) (length self.now.vs.now) (length self.now.ws.now) }
     {
-        if self.us.len() < nodes || self.vs.len() < nodes || self.ws.len() < nodes {
-            return Err(Refusal::Room);
-        }
-        Ok(())
+        room::check_room(nodes, self.us.len(), self.vs.len(), self.ws.len())
     }
 }

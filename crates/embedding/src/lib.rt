@@ -4,4 +4,5 @@
 pub mod embed;
 pub mod layout;
 mod places;
+pub mod room;
 mod wires;

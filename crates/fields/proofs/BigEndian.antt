@@ -1,4 +1,4 @@
--- Numbers as bytes, over the width: what is written is read back, and what is read is written back.
+-- Numbers as bytes, over the width: what is written is read back, and what is read is written back. Four bytes are twice two.
 use mathlib.Core.Path.{◌≡◌, refl, sym, ◌∙◌}
 use mathlib.Core.List.{List, [], ◌∷◌, ◌++◌}
 use Prim.Native.Nat.{ℕ, zero, suc, ◌+◌, ◌*◌, ◌/◌, ◌%◌, ◌≤◌, ◌<◌, ◌^◌}
@@ -58,6 +58,24 @@ pub number_fits : (w : ℕ) (f : List ℕ) (i : ℕ) → Bytes f → number_at w
 unfolding number_at
 number_fits zero f i b = omega arith
 number_fits (suc w) f i b = omega (arith, number_fits w f i b, b.byte (i + w), pow-succ' 256 w)
+
+-- the 4 bytes of a number are the 2 of its higher half and the 2 of its lower
+pub big-halves : (n : ℕ) → big 4 n ≡ big 2 (n / 65536) ++ big 2 (n % 65536)
+unfolding big
+big-halves n =
+    let a : n / 256 / 256 / 256 % 256 ≡ n / 65536 / 256 % 256 = omega arith in
+    let b : n / 256 / 256 % 256 ≡ n / 65536 % 256 = omega arith in
+    let c : n / 256 % 256 ≡ n % 65536 / 256 % 256 = omega arith in
+    let d : n % 256 ≡ n % 65536 % 256 = omega arith in
+    cc
+
+-- the number in 4 bytes is made of those in the first 2 and in the last 2
+pub number-halves : (f : List ℕ) (i : ℕ) → number_at 4 f i ≡ number_at 2 f i * 65536 + number_at 2 f (i + 2)
+unfolding number_at
+number-halves f i =
+    let a : i + 2 + 0 ≡ i + 2 = omega arith in
+    let b : i + 2 + 1 ≡ i + 3 = omega arith in
+    rw (a, b) (omega arith)
 
 -- Rust's own bytes of a number, and the number of such bytes
 pub be_big2 : (n : ℕ) → to_be_bytes w16 n ≡ big 2 n

@@ -4,6 +4,7 @@ pub mod Records
 pub mod Scan
 pub mod Stores
 pub mod Tags
+pub mod TwosComplement
 pub mod Values
 pub mod Standing
 pub mod Fieldwise

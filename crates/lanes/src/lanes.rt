@@ -1,11 +1,18 @@
 // Rows of lanes: for each high set, what the table says of the first part and of the second in each of the 27 ways to deal the three lowest sinks. A split of a high set is then one sum of two rows, and many
 // lanes at a time can be looked at. A row has one lane more that nobody looks at.
-ghost use Rattle.std.specs.Prelude.{◌≡◌, ◌<◌, ◌≤◌, ◌^◌, ◌-◌, ◌+◌, ◌*◌, length, get_or, map};
+ghost use Rattle.std.specs.Prelude.{◌≡◌, ◌<◌, ◌≤◌, ◌^◌, ◌-◌, ◌+◌, ◌*◌, length, get_or, map, min};
 ghost use Rattle.subsets.specs.Subsets.{rising};
 ghost use Rattle.lanes.specs.Blocks.{in_rows, least_with, parts_to, split_off_lane, Modest, Within, Meets, Summed, Deals};
 
 use subsets::subset;
 use subsets::subset::Parts;
+
+// The smaller of two sums. (A function of its own, so that a wrong one can be planted in one place: must-fail/first_split_only.)
+fn smaller(x: u32, y: u32) -> u32
+    ensures { result ≡ min x y }
+{
+    x.min(y)
+}
 
 // One turn: in each lane, the row at a for the first part and the row at b for the second.
 fn meet(rows: &[u32], a: usize, b: usize, sums: &mut [u32; 28])
@@ -14,7 +21,7 @@ fn meet(rows: &[u32], a: usize, b: usize, sums: &mut [u32; 28])
 {
     for (k, sum) in sums.iter_mut().enumerate() {
         let met = rows[a + k] + rows[b + k];
-        *sum = (*sum).min(met);
+        *sum = smaller(*sum, met);
     }
 }
 
@@ -40,7 +47,7 @@ pub fn least_lane(sums: &[u32; 28], from: usize, end: usize) -> u32
 {
     let mut least = u32::MAX;
     for k in from..end {
-        least = least.min(sums[k]);
+        least = smaller(least, sums[k]);
     }
     least
 }
@@ -53,7 +60,7 @@ pub fn least_low(table: &[u32], s: u32, low: u32, v: u32) -> u32
     let mut least = v;
     for part in Parts::of(low) {
         let met = table[(s - part) as usize] + table[part as usize];
-        least = least.min(met);
+        least = smaller(least, met);
     }
     least
 }

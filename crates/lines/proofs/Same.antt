@@ -45,6 +45,12 @@ module _ (n : ℕ) (ps ps' : List ℕ) (us us' vs vs' : List ℤ) (ws ws' : List
       let h : m < suc m = omega arith in
       rw (e, s.same_u m h, s.same_v m h, s.same_w m h, field_same m (s.same_p m h))
 
+-- the parents that the code has worked out are those of the pairs, but for the root's
+pub parents_same : (n : ℕ) (js ps : List ℕ) → Parents n js ps → (k : ℕ) → k < 2 * n - 1 → (k ≡ 2 * n - 2 → ⊥) → get_or ps k 0 ≡ get_or (parents n js) k 0
+parents_same n js ps p k h e =
+    let l : k < 2 * n - 2 = omega (arith, e) in
+    p k l ∙ sym (get_d_tab (parent n js) (2 * n - 2) k 0 l)
+
 -- the parents that the code has worked out give the lines of those of the pairs
 pub lines_with : (n : ℕ) (js ps : List ℕ) (us vs : List ℤ) (ws : List ℕ) → Parents n js ps
     → node_lines n (parents n js) us vs ws (2 * n - 1) ≡ node_lines n ps us vs ws (2 * n - 1)

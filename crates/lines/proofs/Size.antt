@@ -24,13 +24,13 @@ use Rattle.lines.proofs.Children.{around, sink_text}
 
 -- ---- how many figures a node's number, a wire and a place of a refusal have
 pub node_figures : (k : ℕ) → k ≤ 1022 → length (decimal k) ≤ 4
-node_figures k h = decimal-length 4 k (omega arith) (omega arith) (omega arith)
+node_figures k h = decimal-length 4 k (omega arith) (omega arith)
 
 pub wire_figures : (w : ℕ) → w < 2 ^ 32 → length (decimal w) ≤ 10
-wire_figures w h = decimal-length 10 w (omega arith) (omega arith) (omega arith)
+wire_figures w h = decimal-length 10 w (omega arith) (omega arith)
 
 pub place_figures : (i : ℕ) → i < 2 ^ 64 → length (decimal i) ≤ 20
-place_figures i h = decimal-length 20 i (omega arith) (omega arith) h
+place_figures i h = decimal-length 20 i (omega arith) (omega arith)
 
 pub parent_figures : (n : ℕ) (ps : List ℕ) (k : ℕ) → ParentsUp n ps → k < 2 * n - 2 → length (decimal (get_or ps k 0)) ≤ 4
 parent_figures n ps k p h = node_figures (get_or ps k 0) (omega (arith, p.low_p k h, p.few))
@@ -50,7 +50,7 @@ pub first_length : (n total : ℕ) (p : Bool) → n ≤ 512 → total < 2 ^ 32 �
 unfolding first_line
 first_length n total p h g =
     simp length-append
-    (omega (arith, simp length-append at (mark-length p), decimal-length 3 n (omega arith) (omega arith) (omega arith), wire_figures total g))
+    (omega (arith, simp length-append at (mark-length p), decimal-length 3 n (omega arith) (omega arith), wire_figures total g))
 
 -- ---- line 2: the root has three bytes for each join, and at most three for each sink
 around_length : (s t : List ℕ) → length (around s t) ≡ 3 + length s + length t
@@ -65,7 +65,7 @@ unfolding second_line brackets
 second_length n js o =
     let f : ℕ → ℕ = λ k. length (brackets (node n js k)) in
     let r = root_has n js o f (λ i. 3) (λ i h. ap (λ t. length (brackets t)) (node-join n js o i h) ∙ around_length (brackets (node n js (left js i))) (brackets (node n js (right js i)))) in
-    let s = few_sum f 3 n (λ k h. rw (sink_text o h) (decimal-length 3 k (omega arith) (omega (arith, o.few)) (omega (arith, o.few)))) in
+    let s = few_sum f 3 n (λ k h. rw (sink_text o h) (decimal-length 3 k (omega arith) (omega (arith, o.few)))) in
     let t = few_sum (λ i. 3) 3 (n - 1) (λ k h. omega arith) in
     simp length-append (omega (arith, r, s, t, o.few, o.some))
 

@@ -17,7 +17,9 @@ pub fn tree_sound(sinks: &Sinks<'_>, js: &mut [u16], layout: &mut Layout<'_>) ->
     ensures builds { TreesIn sinks.now js.old layout.old result js.new layout.new }
 {
     order::order_sound(sinks, js);
-    embed::embed_sound(sinks, &js[..2 * (sinks.xs.len() - 1)], layout)
+    // The three lists one by one, and not the layout whole: so a must-fail edit can exchange two of them.
+    let joins = &js[..2 * (sinks.xs.len() - 1)];
+    embed::embed_into(sinks, joins, layout.us, layout.vs, layout.ws)
 }
 
 // Refusals 1 to 4, 15 and 7, else the total, with the joins, the places and the wires in the lent buffers.

@@ -29,13 +29,11 @@ Parents n js ps = (k : ℕ) → k < 2 * n - 2 → get_or ps k 0 ≡ parent n js 
 abbrev pub Rising : ℕ → List ℕ → Type 0
 Rising n ps = (k : ℕ) → k < 2 * n - 2 → (k < get_or ps k 0) × (get_or ps k 0 ≤ 2 * n - 2)
 
--- N nodes in each array: room for those of n sinks, and no more than a memory holds
-pub record NodeRoom {N : ℕ} (n : ℕ) (ns : Nodes N) : Type 0 where
-  pub boxes : length ns.hulls ≡ N
-  pub diameters : length ns.diameters ≡ N
-  pub parents : length ns.parents ≡ N
-  pub room : 2 * n - 1 ≤ N
-  pub fits : N < 4294967296
+-- room for the nodes of n sinks
+pub record NodeRoom (n : ℕ) (bs : List Box) (ds ps : List ℕ) : Type 0 where
+  pub boxes : 2 * n - 1 ≤ length bs
+  pub diameters : 2 * n - 1 ≤ length ds
+  pub parents : 2 * n - 1 ≤ length ps
 
 -- delays that the code's numbers hold, and room for twice each
 pub record OwnRoom (delays ds : List ℕ) : Type 0 where
@@ -50,43 +48,43 @@ pub record PutsOwn (delays : List ℕ) (m sum : ℕ) (ds' : List ℕ) : Type 0 w
   pub low : sum ≤ 12000000 * m
 
 -- the nodes of n sinks and of the first i joins are in the arrays
-pub record Up {N : ℕ} (n : ℕ) (js : List ℕ) (i : ℕ) (ns : Nodes N) : Type 0 where
-  pub room : NodeRoom n ns
-  pub fair : Fairs (n + i) ns.hulls
-  pub sized : Diameters (n + i) ns.hulls ns.diameters
-  pub hulls : (j : ℕ) → j < i → box_at ns.hulls (n + j) ≡ hull_of (box_at ns.hulls (left js j)) (box_at ns.hulls (right js j))
-  pub named : (j : ℕ) → j < 2 * i → get_or ns.parents (get_or js j 0) 0 ≡ n + j / 2
+pub record Up (n : ℕ) (js : List ℕ) (i : ℕ) (bs : List Box) (ds ps : List ℕ) : Type 0 where
+  pub room : NodeRoom n bs ds ps
+  pub fair : Fairs (n + i) bs
+  pub sized : Diameters (n + i) bs ds
+  pub hulls : (j : ℕ) → j < i → box_at bs (n + j) ≡ hull_of (box_at bs (left js j)) (box_at bs (right js j))
+  pub named : (j : ℕ) → j < 2 * i → get_or ps (get_or js j 0) 0 ≡ n + j / 2
 
 -- join i is put: its diameter, and the arrays before and after
-pub record PutsJoin {N : ℕ} (n : ℕ) (js : List ℕ) (i : ℕ) (ns : Nodes N) (d : ℕ) (ns' : Nodes N) : Type 0 where
-  pub up : Up n js (i + 1) ns'
-  pub before : (k : ℕ) → k < n + i → box_at ns'.hulls k ≡ box_at ns.hulls k
-  pub adds : ns'.diameters ≡ set ns.diameters (n + i) d
+pub record PutsJoin (n : ℕ) (js : List ℕ) (i : ℕ) (bs : List Box) (ds : List ℕ) (d : ℕ) (bs' : List Box) (ds' ps' : List ℕ) : Type 0 where
+  pub up : Up n js (i + 1) bs' ds' ps'
+  pub before : (k : ℕ) → k < n + i → box_at bs' k ≡ box_at bs k
+  pub adds : ds' ≡ set ds (n + i) d
 
 -- the first i joins are put: the boxes of the sinks before, the sum of the diameters, and the arrays after
-pub record PutsJoins {N : ℕ} (n : ℕ) (js : List ℕ) (i : ℕ) (bs : List Box) (sum : ℕ) (ns' : Nodes N) : Type 0 where
-  pub up : Up n js i ns'
-  pub sinks : (k : ℕ) → k < n → box_at ns'.hulls k ≡ box_at bs k
-  pub sums : sum ≡ sum_to (λ j. get_or ns'.diameters (n + j) 0) i
+pub record PutsJoins (n : ℕ) (js : List ℕ) (i : ℕ) (bs : List Box) (sum : ℕ) (bs' : List Box) (ds' ps' : List ℕ) : Type 0 where
+  pub up : Up n js i bs' ds' ps'
+  pub sinks : (k : ℕ) → k < n → box_at bs' k ≡ box_at bs k
+  pub sums : sum ≡ sum_to (λ j. get_or ds' (n + j) 0) i
   pub low : sum ≤ 28000000 * i
 
 -- the arrays of all nodes
-pub record AllNodes {N : ℕ} (s : Sinks) (js : List ℕ) (ns : Nodes N) : Type 0 where
+pub record AllNodes (s : Sinks) (js : List ℕ) (bs : List Box) (ds ps : List ℕ) : Type 0 where
   pub ordered : Ordered s.n js
-  pub room : NodeRoom s.n ns
-  pub boxed : Boxes s js (2 * s.n - 1) ns.hulls
-  pub sized : Diameters (2 * s.n - 1) ns.hulls ns.diameters
-  pub named : Parents s.n js ns.parents
+  pub room : NodeRoom s.n bs ds ps
+  pub boxed : Boxes s js (2 * s.n - 1) bs
+  pub sized : Diameters (2 * s.n - 1) bs ds
+  pub named : Parents s.n js ps
 
 -- no parent has a smaller diameter
 abbrev pub Longer : ℕ → List ℕ → List ℕ → Type 0
 Longer n ds ps = (k : ℕ) → k < 2 * n - 2 → get_or ds k 0 ≤ get_or ds (get_or ps k 0) 0
 
--- what the wires are written from
+-- what the wires are written from: N nodes in each array, room for those of n sinks
 pub record Climbs {N : ℕ} (n : ℕ) (ns : Nodes N) : Type 0 where
   pub some : 0 < n
   pub few : n ≤ 512
-  pub room : NodeRoom n ns
+  pub room : 2 * n - 1 ≤ N
   pub rising : Rising n ns.parents
   pub longer : Longer n ns.diameters ns.parents
 

@@ -34,46 +34,67 @@ fn put_own(delays: &[u32], ds: &mut [u32]) -> u64
 }
 
 // Join i: the box and the diameter of its node, and whose parent it is.
-fn put_join<const N: usize>(js: &[u16], n: usize, i: usize, nodes: &mut Nodes<N>) -> u32
-    requires { Ordered n js.now × (i < n - 1) × Up n js.now i nodes.old }
-    ensures { PutsJoin n js.now i nodes.old result nodes.new }
+fn put_join(
+    js: &[u16],
+    n: usize,
+    i: usize,
+    hulls: &mut [Box],
+    diameters: &mut [u32],
+    parents: &mut [u16],
+) -> u32
+    requires { Ordered n js.now × (i < n - 1) × Up n js.now i hulls.old diameters.old parents.old }
+    ensures { PutsJoin n js.now i hulls.old diameters.old result hulls.new diameters.new parents.new }
 {
     let a = usize::from(js[2 * i]);
     let b = usize::from(js[2 * i + 1]);
     let m = n + i;
-    let c = boxes::hull(nodes.hulls[a], nodes.hulls[b]);
+    let c = boxes::hull(hulls[a], hulls[b]);
     let d = boxes::breadth(c);
-    nodes.hulls[m] = c;
-    nodes.diameters[m] = d;
+    hulls[m] = c;
+    diameters[m] = d;
     let p = m as u16;
-    nodes.parents[a] = p;
-    nodes.parents[b] = p;
+    parents[a] = p;
+    parents[b] = p;
     d
 }
 
 // All joins, bottom-up, and the sum of their diameters.
-fn put_joins<const N: usize>(js: &[u16], n: usize, nodes: &mut Nodes<N>) -> u64
-    requires { Ordered n js.now × Up n js.now 0 nodes.old }
-    ensures { PutsJoins n js.now (n - 1) nodes.old.hulls result nodes.new }
+fn put_joins(
+    js: &[u16],
+    n: usize,
+    hulls: &mut [Box],
+    diameters: &mut [u32],
+    parents: &mut [u16],
+) -> u64
+    requires { Ordered n js.now × Up n js.now 0 hulls.old diameters.old parents.old }
+    ensures { PutsJoins n js.now (n - 1) hulls.old result hulls.new diameters.new parents.new }
 {
     let mut sum: u64 = 0;
     for i in 0..n - 1 {
-        sum += u64::from(put_join(js, n, i, nodes));
+        sum += u64::from(put_join(js, n, i, hulls, diameters, parents));
     }
     sum
 }
 
-// All nodes, and the total: the sum of the diameters of all joins, and the root's once more, without the sinks' own.
-pub fn put_nodes<const N: usize>(sinks: &Sinks<'_>, js: &[u16], nodes: &mut Nodes<N>) -> u32
-    requires { SoundFor sinks.now js.now × NodeRoom (count sinks.now) nodes.old }
-    ensures { AllNodes (sinks_in sinks.now) js.now nodes.new × (result ≡ total (sinks_in sinks.now) js.now) }
+// All nodes, and the total: the sum of the diameters of all joins, and the root's once more, without the sinks' own. Three lists of any lengths that have the room, and not `Nodes<N>`: no caller is asked for arrays, nor for arrays of one length.
+// It goes into its caller: where the lists are arrays of that one's own, the compiler then knows that no store to them changes the sinks (embedding 512 sinks takes 8 in 100 longer without).
+#[inline(always)]
+pub fn put_nodes(
+    sinks: &Sinks<'_>,
+    js: &[u16],
+    hulls: &mut [Box],
+    diameters: &mut [u32],
+    parents: &mut [u16],
+) -> u32
+    requires { SoundFor sinks.now js.now × NodeRoom (count sinks.now) hulls.old diameters.old parents.old }
+    ensures { AllNodes (sinks_in sinks.now) js.now hulls.new diameters.new parents.new × (result ≡ total (sinks_in sinks.now) js.now) }
 {
     let n = sinks.xs.len();
-    table::put_sinks(sinks, &mut nodes.hulls);
-    let own = put_own(sinks.delays, &mut nodes.diameters);
-    let sum = put_joins(js, n, nodes);
+    table::put_sinks(sinks, hulls);
+    let own = put_own(sinks.delays, diameters);
+    let sum = put_joins(js, n, hulls, diameters, parents);
     let root = 2 * n - 2;
-    (sum + u64::from(nodes.diameters[root]) - own) as u32
+    (sum + u64::from(diameters[root]) - own) as u32
 }
 
 // The parent of each node but the root, from the pairs.

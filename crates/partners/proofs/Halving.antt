@@ -43,6 +43,10 @@ module _ (ls : List ℕ) (x : ℕ) {lo hi : ℕ} (v : Halves ls x lo hi) (e : hi
   before : (j : ℕ) → j < lo → eqb (get_or ls j 0) x ≡ false
   before j h = (let l = v.lower j h in ne_eqb (get_or ls j 0) x (λ q. omega arith))
 
+  -- where all entries are lower than x, none is x
+  pub halves_end : lo ≡ length ls → None ≡ place_of ls x
+  halves_end l = position_none (λ a. eqb a x) ls (λ j h. before j (omega arith))
+
   pub halves_hit : lo < length ls → get_or ls lo 0 ≡ x → Some lo ≡ place_of ls x
   halves_hit h q = position_some (λ a. eqb a x) ls lo h before (eq-eqb (get_or ls lo 0) x q)
 

@@ -1,19 +1,22 @@
--- The lines of what a call built at the front of its buffers.
+-- The lines of what a call built at the front of its buffers: for sinks in lists, and for any sinks.
 use mathlib.Core.Path.{◌≡◌, refl}
 use mathlib.Core.Bool.{Bool}
 use mathlib.Core.List.{List}
 use Prim.Native.Nat.{ℕ, ◌-◌, ◌*◌, ◌≤◌}
 use native.Mathlib.Omega.{arith}
 use lib.IntN.{ℤ, pos}
-use lib.ListN.{length}
+use lib.ListN.{length, take}
 use Rattle.lists.specs.Grow.{front}
 use Rattle.lists.proofs.Grow.{length-grow}
-use Rattle.lists.proofs.Front.{front_at, front_tall}
+use Rattle.lists.proofs.Front.{front_at, front_tall, front_part}
 use Rattle.zero_skew.specs.Plane.{Sinks, u, v}
 use Rattle.plane.specs.Sinks.{sinks_at}
-use Rattle.orders.specs.Nodes.{places_u, places_v, wires, value, wire}
+use Rattle.orders.specs.Nodes.{places_u, places_v, wires, total, value, wire}
+use Rattle.orders.specs.Sound.{Ordered}
 use Rattle.embedding.specs.Ready.{Embeds}
 use Rattle.lines.specs.Lines.{parents, tree_text}
+use Rattle.lines.specs.Parts.{Grown}
+use Rattle.lines.specs.declared.embedded.Embedded.{Embedded}
 use Rattle.printing.specs.Program.{tree_lines}
 use Rattle.lines.proofs.Same.{lines_same}
 
@@ -55,3 +58,41 @@ module _ (xs ys : List ℤ) (delays js : List ℕ) {us vs us' vs' : List ℤ} {w
   embedded_text p =
       rw (e.sums, e.writes_u, e.writes_v, e.writes_w)
       (text_fronts here.n _ p js (places_u here js) us (places_v here js) vs (wires here js) ws us_long vs_long ws_long)
+
+-- what a call that builds the tree of the joining order js leaves in the buffers: the order, the places and the wires, and the total
+pub record Built (s : Sinks) (js : List ℕ) (t : ℕ) (j j' : List ℕ) (a a' b b' : List ℤ) (w w' : List ℕ) : Type 0 where
+  pub ordered : Ordered s.n js
+  pub sums : t ≡ total s js
+  pub has_j : j' ≡ front js j
+  pub has_u : a' ≡ front (places_u s js) a
+  pub has_v : b' ≡ front (places_v s js) b
+  pub has_w : w' ≡ front (wires s js) w
+
+module _ (s : Sinks) (js : List ℕ) {t : ℕ} {j j' : List ℕ} {a a' b b' : List ℤ} {w w' : List ℕ} (h : Built s js t j j' a a' b b' w w') where
+  built_u : 2 * s.n - 1 ≤ length (places_u s js)
+  built_u = omega (arith, length-grow (λ (l : List ℤ). value s (u s) js (length l)) (2 * s.n - 1))
+
+  built_v : 2 * s.n - 1 ≤ length (places_v s js)
+  built_v = omega (arith, length-grow (λ (l : List ℤ). value s (v s) js (length l)) (2 * s.n - 1))
+
+  built_w : 2 * s.n - 1 ≤ length (wires s js)
+  built_w = omega (arith, length-grow (λ (l : List ℕ). wire s js (length l)) (2 * s.n - 1))
+
+  part : take (2 * (s.n - 1)) j' ≡ js
+  part = front_part js j (2 * (s.n - 1)) h.has_j h.ordered.valid.count
+
+  -- a tree that holds what was built has a joining order of the sinks, and a place and a wire for each node
+  pub built_grown : (tree : Embedded) → tree.n ≡ s.n → tree.js.now ≡ take (2 * (s.n - 1)) j' → tree.us.now ≡ a' → tree.vs.now ≡ b' → tree.ws.now ≡ w' → Grown tree
+  built_grown tree en ej eu ev ew =
+      record {
+        ordered = rw (en, ej, part) h.ordered;
+        tall_u = rw (en, eu, h.has_u) (front_tall (places_u s js) a (2 * s.n - 1) built_u);
+        tall_v = rw (en, ev, h.has_v) (front_tall (places_v s js) b (2 * s.n - 1) built_v);
+        tall_w = rw (en, ew, h.has_w) (front_tall (wires s js) w (2 * s.n - 1) built_w);
+      }
+
+  -- and its lines are those of the tree that embedding makes of js
+  pub built_text : (p : Bool) → tree_text s.n t p (take (2 * (s.n - 1)) j') a' b' w' ≡ tree_lines s js p
+  built_text p =
+      rw (part, h.sums, h.has_u, h.has_v, h.has_w)
+      (text_fronts s.n (total s js) p js (places_u s js) a (places_v s js) b (wires s js) w built_u built_v built_w)

@@ -1,4 +1,4 @@
--- The pairs of the program's tree, and what is printed for an input.
+-- The pairs of the program's tree, and what is printed for sinks and for an input.
 use mathlib.Core.Path.{◌≡◌, refl}
 use mathlib.Core.Bool.{Bool, true, false}
 use mathlib.Core.List.{List}
@@ -15,13 +15,14 @@ use Rattle.plane.specs.declared.refusal.Refusal.{Refusal}
 use Rattle.std.specs.Prelude.{Ok, Err}
 use Rattle.orders.specs.Sound.{Ordered}
 use Rattle.nearest.specs.Calls.{order_at}
+use Rattle.nearest.specs.Nearest.{order}
 use Rattle.nearest.proofs.Validity.{order-valid}
 use Rattle.subsets.specs.Best.{step_count}
 use Rattle.search.specs.Searching.{joins_found}
 use Rattle.search.proofs.Finding.{found_ordered}
 use Rattle.house.specs.Reading.{check_sink_file, xs_in, ys_in}
 use Rattle.lines.specs.Lines.{refusal_line, too_long}
-use Rattle.printing.specs.Program.{joins_of, lines_of, answer_text, text_of}
+use Rattle.printing.specs.Program.{tree_lines, joins_of, lines_of, answer_text, text_of}
 use Rattle.lines.specs.Parts.{Sinked}
 
 -- the pairs of the program's tree join all sinks, and the buffer that they were written into holds them
@@ -50,7 +51,18 @@ module _ (xs ys : List ℤ) (delays : List ℕ) (h : Sinked xs ys delays) where
   pub joins_taken : (js js' : List ℕ) → js' ≡ front (joins_of here) js → take (2 * (length xs - 1)) js' ≡ joins_of here
   joins_taken js js' e = front_part (joins_of here) js (2 * (length xs - 1)) e joins_ordered.valid.count
 
--- ---- what is printed for an input
+-- ---- what is printed for sinks, and for an input
+
+-- up to twelve sinks: the lines of the tree that the search finds, and that it is proven
+pub lines_small : (s : Sinks) → s.n ≤ 12 → lines_of s ≡ tree_lines s (joins_found s (step_count s.n)) true
+unfolding lines_of joins_of
+lines_small s h = rw (le-leb s.n 12 h)
+
+-- more: the lines of the tree that is joined by least diameter, and that it is greedy
+pub lines_large : (s : Sinks) → 12 < s.n → lines_of s ≡ tree_lines s (order s s.n) false
+unfolding lines_of joins_of
+lines_large s h = rw (lt-leb s.n 12 h)
+
 pub text_long : (f : List ℕ) → 32768 < length f → text_of f ≡ too_long
 unfolding text_of
 text_long f h = rw (lt-ltb 32768 (length f) h)

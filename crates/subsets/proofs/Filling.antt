@@ -7,7 +7,7 @@ use mathlib.Core.Path.{◌≡◌, refl, sym, ap, ap₂, subst, ◌∙◌}
 use mathlib.Core.List.{List, [], ◌∷◌, ◌++◌, map, foldl, foldl-append, map-append, append-nil}
 use Prim.Native.Nat.{ℕ, zero, suc, ◌+◌, ◌-◌, ◌^◌, ◌≤◌, ◌<◌, min}
 use native.Mathlib.Omega.{arith}
-use lib.ListN.{length, take, drop, get_or, set, length-set, length-append, length-map, get_or-append, length-take, drop_of_length-le}
+use lib.ListN.{length, take, drop, get_or, set, length-set, length-append, length-map, length-drop, get_or-append, length-take, drop_of_length-le}
 use lib.Seq.{take-nil, set-append_left}
 use Rattle.subsets.specs.Subsets.{rising, splits}
 use Rattle.subsets.specs.Table.{blank_of, blanks, cost_of, pair_up, step_of, steps, steps_of, table_after}
@@ -37,9 +37,18 @@ blanked_more s t h =
     front_more (map blank_of (rising s 0)) t s (blank_of s) n h
     ∙ ap (λ (l : List ℕ). l ++ drop (s + 1) t) (sym (map-append blank_of (rising s 0) (s ∷ [])) ∙ ap (map blank_of) (sym e))
 
+-- a table that is blank below s is as long as it was
+pub blanked_length : (s : ℕ) (t : List ℕ) → s ≤ length t → length (blanked s t) ≡ length t
+blanked_length s t h = length-append (map blank_of (rising s 0)) (drop s t) ∙ omega (arith, length-map (rising s 0) blank_of, rising_length s 0, length-drop s t)
+
 pub blanks-length : (n : ℕ) → length (blanks n) ≡ 2 ^ n
 unfolding blanks
 blanks-length n = length-map (rising (2 ^ n) 0) blank_of ∙ rising_length (2 ^ n) 0
+
+-- a table that is blank below 2 ^ n begins with the blank table
+pub blanked_all : (n : ℕ) (t : List ℕ) → blanked (2 ^ n) t ≡ front (blanks n) t
+unfolding blanks
+blanked_all n t = ap (λ (k : ℕ). map blank_of (rising (2 ^ n) 0) ++ drop k t) (sym (blanks-length n))
 
 -- all of the part of the first k numbers that is lent
 pub blanked_part : (n k s : ℕ) (t : List ℕ) → k ≡ 2 ^ n → 2 ^ n ≤ length t → length (take k t) ≤ s → s ≤ length (take k t) → blanked s (take k t) ++ drop k t ≡ front (blanks n) t

@@ -59,8 +59,8 @@ pub fn diameter(ds: &[u32; 4096], s: u32) -> u32
 
 // For every r below `step`, the entry at half + step + r is made the larger of that at half + r and w.
 // As in `widen`, no test stands around the store, and what is written is not read by a later turn: of such a loop the compiler takes many turns at once.
-fn stretch(ds: &mut [u32; 4096], half: usize, step: usize, w: u32)
-    requires { half + step + step ≤ 4096 }
+fn stretch(ds: &mut [u32], half: usize, step: usize, w: u32)
+    requires { half + step + step ≤ length ds.old }
     ensures { Changed (half + step) step (λ (r : ℕ). max (held ds.old (half + r)) w) ds.old ds.new }
 {
     for r in 0..step {
@@ -69,8 +69,8 @@ fn stretch(ds: &mut [u32; 4096], half: usize, step: usize, w: u32)
 }
 
 // For every subset r of the sinks before j, how far sink j is from the farthest of them and of itself, at half + r. The sinks are taken in one by one, and each doubles the subsets that are done.
-fn farthest(q: [[u32; 12]; 12], ds: &mut [u32; 4096], j: usize, half: usize)
-    requires { (j < 12) × (half ≡ 2 ^ j) }
+fn farthest(q: [[u32; 12]; 12], ds: &mut [u32], j: usize, half: usize)
+    requires { (j < 12) × (half ≡ 2 ^ j) × (half + half ≤ length ds.old) }
     ensures { Changed half half (farthest_in q j) ds.old ds.new }
 {
     let mut step = 1;
@@ -82,8 +82,8 @@ fn farthest(q: [[u32; 12]; 12], ds: &mut [u32; 4096], j: usize, half: usize)
 }
 
 // For every r below `half`, the entry at half + r is made the larger of itself and that at r.
-fn widen(ds: &mut [u32; 4096], half: usize)
-    requires { half + half ≤ 4096 }
+fn widen(ds: &mut [u32], half: usize)
+    requires { half + half ≤ length ds.old }
     ensures { Changed half half (λ (r : ℕ). max (held ds.old (half + r)) (held ds.old r)) ds.old ds.new }
 {
     for r in 0..half {
@@ -92,8 +92,8 @@ fn widen(ds: &mut [u32; 4096], half: usize)
 }
 
 // The diameters of all subsets of n sinks, from the square. The subsets whose highest sink is j are half + r, for the subsets r of the sinks before it.
-pub fn diameters(q: [[u32; 12]; 12], ds: &mut [u32; 4096], n: usize)
-    requires { n ≤ 12 }
+pub fn diameters(q: [[u32; 12]; 12], ds: &mut [u32], n: usize)
+    requires { (n ≤ 12) × (2 ^ n ≤ length ds.old) }
     ensures { Widths q (2 ^ n) ds.new }
 {
     let mut half = 1;

@@ -5,7 +5,7 @@ use Rattle.embedding.proofs.places.join_places.Goals as goal
 pub put_near-requires : goal.put_near-requires
 put_near-requires g c =
     let r = c.requires in
-    (omega (arith, r.0.room.fits), open_next r.0 (omega (arith, c.put_root.auto.us, c.loop-k.auto.us)) (omega (arith, c.put_root.auto.vs, c.loop-k.auto.vs)) c.loop-k-test.true (omega (arith, c.loop-k.auto.k)) c.from-p.ensures c.loop-k.invariant.spots)
+    (omega (arith, r.0.fits), open_next r.0 (omega (arith, c.put_root.auto.us, c.loop-k.auto.us)) (omega (arith, c.put_root.auto.vs, c.loop-k.auto.vs)) c.loop-k-test.true (omega (arith, c.loop-k.auto.k)) c.from-p.ensures c.loop-k.invariant.spots)
 
 pub loop-k-preserved : goal.loop-k-preserved
 loop-k-preserved g c =

@@ -10,7 +10,7 @@ pub loop-k-preserved : goal.loop-k-preserved
 loop-k-preserved c =
     let a = c.args in
     let l = c.loop-k in
-    (omega arith, omega arith, lane_turn a.sums.now a.end l.k l.least c.min-least.result (least_with (λ (j : ℕ). get_or a.sums.now j 0) 4294967295 (rising (a.end - a.from) a.from)) (omega arith) c.min-least.ensures l.invariant.2)
+    (omega arith, omega arith, lane_turn a.sums.now a.end l.k l.least c.smaller-least.result (least_with (λ (j : ℕ). get_or a.sums.now j 0) 4294967295 (rising (a.end - a.from) a.from)) (omega arith) c.smaller-least.ensures l.invariant.2)
 
 pub returns : goal.returns
 returns c =

@@ -17,8 +17,8 @@ loop-part-preserved c =
     let e : c.next.new.self.next ≡ bit_and (k - 1) a.low = s.3 ∙ ap (bit_and (k - 1)) i.0 in (
       s.2 ∙ i.0,
       rw e (sub_and a.low (k - 1)),
-      rw e (low_turn a.table.now a.s a.low k l.least c.min-least.result (least_with (split_off_lane a.table.now a.s) a.v (parts_to a.low a.low)) s.0 i.1
-          (c.min-least.ensures ∙ ap (λ (x : ℕ). min l.least (get_or a.table.now (a.s - x) 0 + get_or a.table.now x 0)) s.1) i.2),
+      rw e (low_turn a.table.now a.s a.low k l.least c.smaller-least.result (least_with (split_off_lane a.table.now a.s) a.v (parts_to a.low a.low)) s.0 i.1
+          (c.smaller-least.ensures ∙ ap (λ (x : ℕ). min l.least (get_or a.table.now (a.s - x) 0 + get_or a.table.now x 0)) s.1) i.2),
     )
 
 pub returns : goal.returns

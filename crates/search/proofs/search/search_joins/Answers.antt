@@ -4,6 +4,7 @@ use Rattle.plane.proofs.Checks.{fitting}
 use mathlib.Core.Path.{ap, ◌∙◌}
 use mathlib.Core.List.{List}
 use lib.ListN.{length}
+use lib.Pow.{pow_mono}
 use Rattle.lists.specs.Grow.{front}
 use Rattle.plane.specs.Sinks.{sinks_at}
 use Rattle.subsets.specs.Square.{held}
@@ -15,6 +16,9 @@ use Rattle.search.proofs.search.search_joins.Goals as goal
 
 pub square-requires : goal.square-requires
 square-requires c = (fitting c.requires.ranged, c.requires.few)
+
+pub diameters-requires : goal.diameters-requires
+diameters-requires c = (c.requires.few, pow_mono c.requires.few)
 
 pub fill-steps-requires : goal.fill-steps-requires
 fill-steps-requires c =

@@ -11,11 +11,11 @@ returns-then-n-lt10 t c = rw (decimal_one c.args.n c.if-n-lt10.true) c.byte.ensu
 
 pub digits-requires : goal.digits-requires
 digits-requires t c =
-    (omega (arith, c.decreases), room_here _ (rw (decimal_more c.args.n c.if-n-lt10.false c.ranges.n.fits) at c.requires))
+    (omega (arith, c.decreases), room_here _ (rw (decimal_more c.args.n c.if-n-lt10.false) at c.requires))
 
 pub byte-requires-2 : goal.byte-requires-2
-byte-requires-2 t c = room_then c.digits.ensures (rw (decimal_more c.args.n c.if-n-lt10.false c.ranges.n.fits) at c.requires)
+byte-requires-2 t c = room_then c.digits.ensures (rw (decimal_more c.args.n c.if-n-lt10.false) at c.requires)
 
 pub returns : goal.returns
 returns t c =
-    rw (decimal_more c.args.n c.if-n-lt10.false c.ranges.n.fits) (then c.digits.ensures c.byte-2.ensures)
+    rw (decimal_more c.args.n c.if-n-lt10.false) (then c.digits.ensures c.byte-2.ensures)
