@@ -56,7 +56,7 @@ pub lines_with : (n : ℕ) (js ps : List ℕ) (us vs : List ℤ) (ws : List ℕ)
     → node_lines n (parents n js) us vs ws (2 * n - 1) ≡ node_lines n ps us vs ws (2 * n - 1)
 lines_with n js ps us vs ws p =
     lines_same n (parents n js) ps us us vs vs ws ws (2 * n - 1) record {
-      same_p = λ k h e. let l : k < 2 * n - 2 = omega (arith, e) in get_d_tab (parent n js) (2 * n - 2) k 0 l ∙ sym (p k l);
+      same_p = λ k h e. sym (parents_same n js ps p k h e);
       same_u = λ k h. refl;
       same_v = λ k h. refl;
       same_w = λ k h. refl;

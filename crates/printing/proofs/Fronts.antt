@@ -31,33 +31,35 @@ text_fronts n t p js us us₀ vs vs₀ ws ws₀ hu hv hw =
       same_w = λ k h. front_at ws ws₀ k 0 (omega arith);
     })
 
--- what embedding leaves in the buffers has an entry for each node, and its lines are those of the tree
+-- the lists of a joining order have an entry for each node
+module _ (s : Sinks) (js : List ℕ) where
+  long_u : 2 * s.n - 1 ≤ length (places_u s js)
+  long_u = omega (arith, length-grow (λ (l : List ℤ). value s (u s) js (length l)) (2 * s.n - 1))
+
+  long_v : 2 * s.n - 1 ≤ length (places_v s js)
+  long_v = omega (arith, length-grow (λ (l : List ℤ). value s (v s) js (length l)) (2 * s.n - 1))
+
+  long_w : 2 * s.n - 1 ≤ length (wires s js)
+  long_w = omega (arith, length-grow (λ (l : List ℕ). wire s js (length l)) (2 * s.n - 1))
+
+-- so has what embedding leaves in the buffers, and its lines are those of the tree
 module _ (xs ys : List ℤ) (delays js : List ℕ) {us vs us' vs' : List ℤ} {ws ws' : List ℕ} {t : ℕ} (e : Embeds xs ys delays js us vs ws t us' vs' ws') where
   abbrev here : Sinks
   here = sinks_at xs ys delays
 
-  us_long : 2 * here.n - 1 ≤ length (places_u here js)
-  us_long = omega (arith, length-grow (λ (l : List ℤ). value here (u here) js (length l)) (2 * here.n - 1))
-
-  vs_long : 2 * here.n - 1 ≤ length (places_v here js)
-  vs_long = omega (arith, length-grow (λ (l : List ℤ). value here (v here) js (length l)) (2 * here.n - 1))
-
-  ws_long : 2 * here.n - 1 ≤ length (wires here js)
-  ws_long = omega (arith, length-grow (λ (l : List ℕ). wire here js (length l)) (2 * here.n - 1))
-
   pub tall_u : 2 * length xs - 1 ≤ length us'
-  tall_u = rw e.writes_u (front_tall (places_u here js) us (2 * here.n - 1) us_long)
+  tall_u = rw e.writes_u (front_tall (places_u here js) us (2 * here.n - 1) (long_u here js))
 
   pub tall_v : 2 * length xs - 1 ≤ length vs'
-  tall_v = rw e.writes_v (front_tall (places_v here js) vs (2 * here.n - 1) vs_long)
+  tall_v = rw e.writes_v (front_tall (places_v here js) vs (2 * here.n - 1) (long_v here js))
 
   pub tall_w : 2 * length xs - 1 ≤ length ws'
-  tall_w = rw e.writes_w (front_tall (wires here js) ws (2 * here.n - 1) ws_long)
+  tall_w = rw e.writes_w (front_tall (wires here js) ws (2 * here.n - 1) (long_w here js))
 
   pub embedded_text : (p : Bool) → tree_text (length xs) t p js us' vs' ws' ≡ tree_lines (sinks_at xs ys delays) js p
   embedded_text p =
       rw (e.sums, e.writes_u, e.writes_v, e.writes_w)
-      (text_fronts here.n _ p js (places_u here js) us (places_v here js) vs (wires here js) ws us_long vs_long ws_long)
+      (text_fronts here.n _ p js (places_u here js) us (places_v here js) vs (wires here js) ws (long_u here js) (long_v here js) (long_w here js))
 
 -- what a call that builds the tree of the joining order js leaves in the buffers: the order, the places and the wires, and the total
 pub record Built (s : Sinks) (js : List ℕ) (t : ℕ) (j j' : List ℕ) (a a' b b' : List ℤ) (w w' : List ℕ) : Type 0 where
@@ -69,15 +71,6 @@ pub record Built (s : Sinks) (js : List ℕ) (t : ℕ) (j j' : List ℕ) (a a' b
   pub has_w : w' ≡ front (wires s js) w
 
 module _ (s : Sinks) (js : List ℕ) {t : ℕ} {j j' : List ℕ} {a a' b b' : List ℤ} {w w' : List ℕ} (h : Built s js t j j' a a' b b' w w') where
-  built_u : 2 * s.n - 1 ≤ length (places_u s js)
-  built_u = omega (arith, length-grow (λ (l : List ℤ). value s (u s) js (length l)) (2 * s.n - 1))
-
-  built_v : 2 * s.n - 1 ≤ length (places_v s js)
-  built_v = omega (arith, length-grow (λ (l : List ℤ). value s (v s) js (length l)) (2 * s.n - 1))
-
-  built_w : 2 * s.n - 1 ≤ length (wires s js)
-  built_w = omega (arith, length-grow (λ (l : List ℕ). wire s js (length l)) (2 * s.n - 1))
-
   part : take (2 * (s.n - 1)) j' ≡ js
   part = front_part js j (2 * (s.n - 1)) h.has_j h.ordered.valid.count
 
@@ -86,13 +79,13 @@ module _ (s : Sinks) (js : List ℕ) {t : ℕ} {j j' : List ℕ} {a a' b b' : Li
   built_grown tree en ej eu ev ew =
       record {
         ordered = rw (en, ej, part) h.ordered;
-        tall_u = rw (en, eu, h.has_u) (front_tall (places_u s js) a (2 * s.n - 1) built_u);
-        tall_v = rw (en, ev, h.has_v) (front_tall (places_v s js) b (2 * s.n - 1) built_v);
-        tall_w = rw (en, ew, h.has_w) (front_tall (wires s js) w (2 * s.n - 1) built_w);
+        tall_u = rw (en, eu, h.has_u) (front_tall (places_u s js) a (2 * s.n - 1) (long_u s js));
+        tall_v = rw (en, ev, h.has_v) (front_tall (places_v s js) b (2 * s.n - 1) (long_v s js));
+        tall_w = rw (en, ew, h.has_w) (front_tall (wires s js) w (2 * s.n - 1) (long_w s js));
       }
 
   -- and its lines are those of the tree that embedding makes of js
   pub built_text : (p : Bool) → tree_text s.n t p (take (2 * (s.n - 1)) j') a' b' w' ≡ tree_lines s js p
   built_text p =
       rw (part, h.sums, h.has_u, h.has_v, h.has_w)
-      (text_fronts s.n (total s js) p js (places_u s js) a (places_v s js) b (wires s js) w built_u built_v built_w)
+      (text_fronts s.n (total s js) p js (places_u s js) a (places_v s js) b (wires s js) w (long_u s js) (long_v s js) (long_w s js))
